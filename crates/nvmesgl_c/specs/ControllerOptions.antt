@@ -1,9 +1,10 @@
 -- What the options of an opening say, and when a controller is not opened.
-use Rattle.std.specs.{List.list_any, Prelude.{◌≡◌, ◌==◌, ◌||◌, ℕ, nat_lt, Bool, Option, Some, None, Ok, Err, List, length, map, if◌then◌else◌}}
-use Rattle.nvmesgl_c.specs.{ControllerCodes.code_of_not_opened, ControllerKept.{Kept, cause_in}, Images.{image_of, IsBadImage, IsGoodImage}, Requests.is_set, declared.controller.options.CQueue.CQueue}
-use Rattle.nvmesgl_c.specs.declared.controller.options.{NotOpened.NotOpened, Options.Options}
+use Rattle.std.specs.{Option.option_or, Prelude.{◌≡◌, ◌||◌, ℕ, nat_lt, Bool, Option, Some, None, Ok, Err, List, length, map, if◌then◌else◌}}
+use Rattle.nvmesgl_c.specs.{ControllerKept.{Kept, cause_in}, Images.{image_of, IsBadImage, IsGoodImage}, NotOpening.{code_of_not_opened, fault_of_form}, declared.controller.options.CQueue.CQueue}
+use Rattle.nvmesgl_c.specs.declared.{controller.options.Options.Options, words.not_opened.NotOpened.NotOpened}
 use Rattle.controller_core.specs.{Contents.Contents, Opening.opened, declared.queue.QueuePages.QueuePages}
-use Rattle.nvmesgl_c.specs.declared.controller.options.NotOpened.TheVariants as not_opened
+use Rattle.machine_model.specs.declared.words.OpenRefusal.TheVariants as open_refusal
+use Rattle.nvmesgl_c.specs.declared.words.not_opened.NotOpened.TheVariants as not_opened
 
 -- the pages of a queue
 abbrev pub pages_of_queue : CQueue → QueuePages
@@ -16,11 +17,7 @@ is_bad_config entries queues = nat_lt entries 2 || nat_lt 1024 entries || nat_lt
 -- what is wrong with the options, for so many queues
 abbrev pub fault_of : Options → ℕ → Option NotOpened
 fault_of o queues =
-    if o.size == 32
-    then (if list_any is_set o.reserved then Some not_opened.BadOption
-    else if is_bad_config o.entries queues then Some not_opened.BadConfig
-    else None)
-    else Some not_opened.BadSize
+    option_or (fault_of_form 32 o.size o.reserved) (if is_bad_config o.entries queues then Some (not_opened.Refused open_refusal.BadConfig) else None)
 
 -- when a controller is not opened for a cause: the first that holds; memory is refused only where there is no other
 abbrev pub IsWhy : Options → ℕ → List ℕ → NotOpened → Type 0

@@ -1,12 +1,10 @@
 -- What C is told of each reply besides its code.
 use Rattle.std.specs.Prelude.{ℕ, true, false, Option, Some, None, Result, Ok, Err, [], ◌∷◌, length}
-use Rattle.nvmesgl_c.specs.{Answers.{nothing, ended, reaped, refused}, declared.host.{answer.CDoorbell.CDoorbell, options.NotOpened.NotOpened}}
+use Rattle.nvmesgl_c.specs.{Answers.{nothing, ended, reaped, refused}, declared.host.answer.CDoorbell.CDoorbell}
 use Rattle.nvmesgl_c.specs.declared.words.answer.Answer.{Answer}
 use Rattle.host_core.specs.declared.doorbell.Doorbell.{Doorbell}
 use Rattle.host_bench.specs.Values.{Reply}
-use Rattle.nvmesgl_c.specs.Answers as words
 use Rattle.host_bench.specs.declared.call.Reply.TheVariants as reply
-use Rattle.nvmesgl_c.specs.declared.host.options.NotOpened.TheVariants as not_opened
 
 abbrev pub told_of : Reply → Answer
 told_of (reply.Reserved q cid front back) = record nothing { cid = cid; data_pages = front; chain_pages = back }
@@ -39,7 +37,3 @@ bell_in r = shown_bell None
 abbrev pub bell_of : Result Reply ℕ → CDoorbell
 bell_of (Ok answer) = bell_in answer
 bell_of (Err code) = shown_bell None
-
-abbrev pub told_not_opened : NotOpened → Answer
-told_not_opened (not_opened.Refused why) = words.not_opened why
-told_not_opened why = nothing

@@ -1,8 +1,7 @@
 -- The code of each answer.
 use Rattle.std.specs.Prelude.{ℕ, Result, Ok, Err}
-use Rattle.nvmesgl_c.specs.{Codes.{code_of_refusal, code_of_fill_fault, code_of_open_refusal}, declared.host.options.NotOpened.NotOpened}
+use Rattle.nvmesgl_c.specs.Codes.{code_of_refusal, code_of_fill_fault}
 use Rattle.host_bench.specs.Values.{Reply}
-use Rattle.nvmesgl_c.specs.declared.host.options.NotOpened.TheVariants as not_opened
 use Rattle.host_bench.specs.declared.call.Reply.TheVariants as reply
 
 abbrev pub code_of_answer : Reply → ℕ
@@ -15,9 +14,3 @@ code_of_answer answer = 0
 abbrev pub code_of_reply : Result Reply ℕ → ℕ
 code_of_reply (Err code) = code
 code_of_reply (Ok answer) = code_of_answer answer
-
-abbrev pub code_of_not_opened : NotOpened → ℕ
-code_of_not_opened not_opened.BadSize = 7
-code_of_not_opened not_opened.BadOption = 8
-code_of_not_opened not_opened.Memory = 15
-code_of_not_opened (not_opened.Refused why) = code_of_open_refusal why

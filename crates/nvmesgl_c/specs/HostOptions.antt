@@ -1,12 +1,12 @@
 -- What the options of an opening say, and when a handle is not opened.
-use Rattle.std.specs.{List.list_any, Prelude.{◌≡◌, ◌==◌, ℕ, Option, Some, None, Ok, Err, [], if◌then◌else◌}}
+use Rattle.std.specs.Prelude.{◌≡◌, ℕ, Option, Some, None, Ok, Err, []}
 use Rattle.host_core.specs.Opening.{refusal_of_config, RefusesOpening}
 use Rattle.host_core.specs.declared.config.Config.{Config}
 use Rattle.host_bench.specs.BenchTables.{opened_alone}
 use Rattle.machine_model.specs.Script.{table}
-use Rattle.nvmesgl_c.specs.{Answers.nothing, HostAnswers.told_not_opened, HostCodes.code_of_not_opened, HostKept.{Kept, cause_in}, Requests.is_set}
-use Rattle.nvmesgl_c.specs.declared.{host.{options.{NotOpened.NotOpened, Options.Options}, tagged.Tagged.Tagged}, words.answer.Answer.Answer}
-use Rattle.nvmesgl_c.specs.declared.host.options.NotOpened.TheVariants as not_opened
+use Rattle.nvmesgl_c.specs.{Answers.nothing, HostKept.{Kept, cause_in}, NotOpening.{code_of_not_opened, fault_of_form, told_not_opened}}
+use Rattle.nvmesgl_c.specs.declared.{host.{options.Options.Options, tagged.Tagged.Tagged}, words.{answer.Answer.Answer, not_opened.NotOpened.NotOpened}}
+use Rattle.nvmesgl_c.specs.declared.words.not_opened.NotOpened.TheVariants as not_opened
 
 -- the configuration of an opening
 abbrev pub config_of : Options → Config
@@ -14,10 +14,7 @@ config_of o = record { pages = o.pages; queues = o.queues; entries = o.entries; 
 
 -- what is wrong with the form of the options
 abbrev pub fault_of : Options → Option NotOpened
-fault_of o =
-    if o.size == 32
-    then (if list_any is_set o.reserved then Some not_opened.BadOption else None)
-    else Some not_opened.BadSize
+fault_of o = fault_of_form 32 o.size o.reserved
 
 -- when a handle is not opened for a cause: the first that holds; memory is refused only where there is no other
 abbrev pub IsWhy : Options → NotOpened → Type 0

@@ -2,6 +2,7 @@ pub mod HeldOwned
 pub mod Keeping
 pub mod Answers
 pub mod Codes
+pub mod NotOpening
 pub mod Images
 pub mod Requests
 pub mod Buffers

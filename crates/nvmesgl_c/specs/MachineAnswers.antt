@@ -1,10 +1,8 @@
 -- What C is told of each reply besides its code.
 use Rattle.std.specs.Prelude.{ℕ, Result, Ok, Err, length}
-use Rattle.nvmesgl_c.specs.{Answers.{nothing, touching, ended, walked, reaped, refused}, declared.machine.options.NotOpened.NotOpened}
+use Rattle.nvmesgl_c.specs.Answers.{nothing, touching, ended, walked, reaped, refused}
 use Rattle.nvmesgl_c.specs.declared.words.answer.Answer.{Answer}
 use Rattle.step_core.specs.Values.{Reply}
-use Rattle.nvmesgl_c.specs.Answers as words
-use Rattle.nvmesgl_c.specs.declared.machine.options.NotOpened.TheVariants as not_opened
 use Rattle.step_core.specs.declared.step.Reply.TheVariants as reply
 
 abbrev pub told_of : Reply → Answer
@@ -25,7 +23,3 @@ told_of (reply.NotFilled why) = nothing
 abbrev pub told : Result Reply ℕ → Answer
 told (Ok answer) = told_of answer
 told (Err code) = nothing
-
-abbrev pub told_not_opened : NotOpened → Answer
-told_not_opened (not_opened.Refused why) = words.not_opened why
-told_not_opened why = nothing

@@ -19,4 +19,4 @@ mod regions;
 pub use handle::Handle;
 pub use looks::CCommand;
 pub use next::CStep;
-pub use options::{CQueue, NotOpened, Options};
+pub use options::{CQueue, Options};

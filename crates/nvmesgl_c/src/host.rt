@@ -24,7 +24,7 @@ mod tagged;
 pub use answer::CDoorbell;
 pub use handle::Handle;
 pub use looks::{CHostQueue, CPages};
-pub use options::{NotOpened, Options};
+pub use options::Options;
 pub use polling::CEnded;
 pub use reach::{CPlace, CRun};
 pub use tagged::Tagged;

@@ -22,5 +22,5 @@ mod whole;
 pub use carrying::Carried;
 pub use handle::Handle;
 pub use looks::CCounts;
-pub use options::{NotOpened, Options};
+pub use options::Options;
 pub use serve::{ServeEnd, Served};

@@ -7,7 +7,8 @@ ghost use Rattle.nvmesgl_c.specs.ControllerCalls.{FetchesBy, WalksBy, CompletesB
 use crate::controller::code::POOL_TOO_LONG;
 use crate::controller::handle::Handle;
 use crate::controller::over::{complete, fetch, walk};
-use crate::words::{Answer, MOST_BYTES, nothing};
+use crate::words::{Answer, LentMemory, MOST_BYTES, nothing, or_code};
+use arrayvec::ArrayVec;
 use controller_core::Controller;
 use std::alloc::Global;
 
@@ -45,11 +46,12 @@ pub extern "C" fn nvmectl_fetch(
     ensures { Lent (FetchesBy q) (kept_in handle.old) pool.old result answer.new (kept_in handle.new) pool.new }
 {
     *answer = nothing();
-    let mut controller = match take_for(alloc, handle, pool.len()) {
-        Ok(controller) => controller,
-        Err(code) => return code,
+    let mut controller = or_code!(take_for(alloc, handle, pool.len()));
+    let mut memory = LentMemory {
+        bytes: pool,
+        touched: ArrayVec::new(),
     };
-    let code = fetch(&mut controller, q, pool, answer);
+    let code = fetch(&mut controller, q, &mut memory, answer);
     handle.put(controller);
     code
 }
@@ -67,11 +69,12 @@ pub extern "C" fn nvmectl_walk(
     ensures { Lent (WalksBy q cid) (kept_in handle.old) pool.old result answer.new (kept_in handle.new) pool.new }
 {
     *answer = nothing();
-    let mut controller = match take_for(alloc, handle, pool.len()) {
-        Ok(controller) => controller,
-        Err(code) => return code,
+    let mut controller = or_code!(take_for(alloc, handle, pool.len()));
+    let mut memory = LentMemory {
+        bytes: pool,
+        touched: ArrayVec::new(),
     };
-    let code = walk(&mut controller, q, cid, pool, answer);
+    let code = walk(&mut controller, q, cid, &mut memory, answer);
     handle.put(controller);
     code
 }
@@ -89,11 +92,12 @@ pub extern "C" fn nvmectl_complete(
     ensures { Lent (CompletesBy q cid) (kept_in handle.old) pool.old result answer.new (kept_in handle.new) pool.new }
 {
     *answer = nothing();
-    let mut controller = match take_for(alloc, handle, pool.len()) {
-        Ok(controller) => controller,
-        Err(code) => return code,
+    let mut controller = or_code!(take_for(alloc, handle, pool.len()));
+    let mut memory = LentMemory {
+        bytes: pool,
+        touched: ArrayVec::new(),
     };
-    let code = complete(&mut controller, q, cid, pool, answer);
+    let code = complete(&mut controller, q, cid, &mut memory, answer);
     handle.put(controller);
     code
 }

@@ -3,12 +3,8 @@
 ghost use Rattle.std.specs.Prelude.{◌≡◌};
 ghost use Rattle.nvmesgl_c.specs.ControllerCodes as codes;
 
-use crate::controller::options::NotOpened;
-use crate::words::code::{BAD_IMAGE, BAD_OPTION, BAD_SIZE, MEMORY};
 use controller_core::Refusal;
 
-/// A number of the options is outside its limits.
-const BAD_CONFIG: u32 = 12;
 /// No queue of this number takes the call.
 pub(crate) const NO_QUEUE: u32 = 10;
 /// There is no such job.
@@ -33,18 +29,5 @@ pub(crate) fn code_of_refusal(why: Refusal) -> u32
         Refusal::Nothing => 32,
         Refusal::Walking => 33,
         Refusal::Waits => 34,
-    }
-}
-
-/// The code of an opening that was not done.
-pub(crate) fn code_of_not_opened(why: NotOpened) -> u32
-    ensures { result ≡ codes.code_of_not_opened why }
-{
-    match why {
-        NotOpened::BadSize => BAD_SIZE,
-        NotOpened::BadOption => BAD_OPTION,
-        NotOpened::BadConfig => BAD_CONFIG,
-        NotOpened::BadImage => BAD_IMAGE,
-        NotOpened::Memory => MEMORY,
     }
 }

@@ -7,6 +7,7 @@ ghost use Rattle.nvmesgl_c.specs.ControllerCalls.{tail_code, head_code, RingsTai
 use crate::controller::code::{BAD_DOORBELL, NO_QUEUE};
 use crate::controller::handle::Handle;
 use crate::words::code::DONE;
+use crate::words::or_code;
 use controller_core::ControllerQueue;
 use std::alloc::Global;
 
@@ -14,15 +15,13 @@ use std::alloc::Global;
 fn code_of_tail(queues: &[ControllerQueue], q: u16, value: u16) -> u32
     ensures { result ≡ tail_code queues.now q value }
 {
-    match queues.get(usize::from(q)) {
-        Some(queue) => {
-            if value < queue.controller.entries() {
-                DONE
-            } else {
-                BAD_DOORBELL
-            }
-        }
-        None => NO_QUEUE,
+    let Some(queue) = queues.get(usize::from(q)) else {
+        return NO_QUEUE;
+    };
+    if value < queue.controller.entries() {
+        DONE
+    } else {
+        BAD_DOORBELL
     }
 }
 
@@ -30,15 +29,13 @@ fn code_of_tail(queues: &[ControllerQueue], q: u16, value: u16) -> u32
 fn code_of_head(queues: &[ControllerQueue], q: u16, value: u16) -> u32
     ensures { result ≡ head_code queues.now q value }
 {
-    match queues.get(usize::from(q)) {
-        Some(queue) => {
-            let mut controller = queue.controller;
-            match controller.head_bell(value) {
-                Ok(()) => DONE,
-                Err(_) => BAD_DOORBELL,
-            }
-        }
-        None => NO_QUEUE,
+    let Some(queue) = queues.get(usize::from(q)) else {
+        return NO_QUEUE;
+    };
+    let mut controller = queue.controller;
+    match controller.head_bell(value) {
+        Ok(()) => DONE,
+        Err(_) => BAD_DOORBELL,
     }
 }
 
@@ -47,10 +44,7 @@ fn code_of_head(queues: &[ControllerQueue], q: u16, value: u16) -> u32
 pub extern "C" fn nvmectl_tail(alloc: Global, handle: &mut Handle, q: u16, value: u16) -> u32
     ensures { RingsTail (kept_in handle.old) q value result (kept_in handle.new) }
 {
-    let mut controller = match handle.take(alloc) {
-        Ok(controller) => controller,
-        Err(code) => return code,
-    };
+    let mut controller = or_code!(handle.take(alloc));
     let code = code_of_tail(controller.queues(), q, value);
     if code == DONE {
         controller.tail_doorbell(q, value);
@@ -64,10 +58,7 @@ pub extern "C" fn nvmectl_tail(alloc: Global, handle: &mut Handle, q: u16, value
 pub extern "C" fn nvmectl_head(alloc: Global, handle: &mut Handle, q: u16, value: u16) -> u32
     ensures { RingsHead (kept_in handle.old) q value result (kept_in handle.new) }
 {
-    let mut controller = match handle.take(alloc) {
-        Ok(controller) => controller,
-        Err(code) => return code,
-    };
+    let mut controller = or_code!(handle.take(alloc));
     let code = code_of_head(controller.queues(), q, value);
     if code == DONE {
         controller.head_doorbell(q, value);

@@ -1,6 +1,6 @@
 //! A controller that C keeps between its calls.
 
-ghost use Rattle.std.specs.Prelude.{◌≡◌, Option, None, Some, Ok, Err, IfOk, IfErr, OnOk};
+ghost use Rattle.std.specs.Prelude.{◌≡◌, Option, Ok, Err, IfOk, IfErr, OnOk};
 ghost use Rattle.controller_core.specs.Contents.{Contents};
 ghost use Rattle.nvmesgl_c.specs.Keeping.{IsMarked};
 ghost use Rattle.nvmesgl_c.specs.ControllerOwned.{controller_coded, kept_owns, own_mark};
@@ -68,35 +68,6 @@ pub struct Handle {
 impl Handle {
     ghost use Rattle.nvmesgl_c.specs.ControllerKept.{IsClosed, cause_in, code_in, kept_in};
 
-    /// A handle that keeps a controller.
-    fn of(controller: Box<Controller, Global>) -> Handle
-        ensures { result.kept.controller ≡ Some controller.value }
-    {
-        Handle {
-            kept: Kept::of_held(Held::of(controller)),
-            mark: OWN_MARK,
-        }
-    }
-
-    /// A handle that is closed.
-    fn closed(alloc: Global) -> Handle
-        ensures none { result.kept.controller ≡ None }
-        ensures closed { result.mark ≡ 0 }
-    {
-        Handle {
-            kept: Kept::of_held(Held::none(alloc)),
-            mark: 0,
-        }
-    }
-
-    /// What is kept.
-    fn into_kept(self) -> Kept
-        ensures { result.controller ≡ self.kept.controller }
-    {
-        let Handle { kept, mark: _ } = self;
-        kept
-    }
-
     /// Takes the controller out for a call. A handle that keeps none stays as it is.
     ///
     /// # Errors
@@ -111,7 +82,8 @@ impl Handle {
         ensures code { IfErr result (λ code. code ≡ code_in self.old) }
     {
         if self.mark == OWN_MARK {
-            let kept = replace(self, Handle::closed(alloc)).into_kept();
+            let kept = replace(&mut self.kept, Kept::of_held(Held::none(alloc)));
+            self.mark = 0;
             return Ok(kept.into_held().into_box());
         }
         Err(code_of_mark(self.mark))
@@ -121,7 +93,10 @@ impl Handle {
     pub fn put(&mut self, controller: Box<Controller, Global>)
         ensures { kept_in self.new ≡ Ok controller.value }
     {
-        *self = Handle::of(controller);
+        *self = Handle {
+            kept: Kept::of_held(Held::of(controller)),
+            mark: OWN_MARK,
+        };
     }
 
     /// What an opening is refused with for what the handle is: it is open, or none of this kind.

@@ -8,6 +8,7 @@ ghost use Rattle.nvmesgl_c.specs.ControllerLooks.{TellsCommand, TellsBlocks};
 use crate::controller::code::{NO_BLOCKS, NO_JOB};
 use crate::controller::handle::Handle;
 use crate::words::code::DONE;
+use crate::words::or_code;
 use block_image::Image;
 use controller_core::FetchedCommand;
 use std::alloc::Global;
@@ -32,22 +33,16 @@ pub struct CCommand {
 fn command_of(command: &FetchedCommand) -> CCommand
     ensures { result ≡ looks.command_of command.now }
 {
-    let units = command.units_done;
-    match command.work.verdict() {
-        Some(status) => CCommand {
-            units,
-            ended: true,
-            sct: status.sct,
-            sc: status.sc,
-            reserved: [0; 4],
-        },
-        None => CCommand {
-            units,
-            ended: false,
-            sct: 0,
-            sc: 0,
-            reserved: [0; 4],
-        },
+    let (ended, sct, sc) = match command.work.verdict() {
+        Some(status) => (true, status.sct, status.sc),
+        None => (false, 0, 0),
+    };
+    CCommand {
+        units: command.units_done,
+        ended,
+        sct,
+        sc,
+        reserved: [0; 4],
     }
 }
 
@@ -78,10 +73,7 @@ pub extern "C" fn nvmectl_command(
 ) -> u32
     ensures { TellsCommand (kept_in handle.old) q cid result command.old command.new (kept_in handle.new) }
 {
-    let controller = match handle.take(alloc) {
-        Ok(controller) => controller,
-        Err(code) => return code,
-    };
+    let controller = or_code!(handle.take(alloc));
     let code = match controller.command(q, cid) {
         Some(found) => {
             *command = command_of(found);
@@ -103,10 +95,7 @@ pub extern "C" fn nvmectl_blocks(
 ) -> u32
     ensures { TellsBlocks (kept_in handle.old) slba result buffer.old buffer.new (kept_in handle.new) }
 {
-    let controller = match handle.take(alloc) {
-        Ok(controller) => controller,
-        Err(code) => return code,
-    };
+    let controller = or_code!(handle.take(alloc));
     let code = copy_blocks(controller.image(), slba, buffer);
     handle.put(controller);
     code

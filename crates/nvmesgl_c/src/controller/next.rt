@@ -1,14 +1,14 @@
 //! What the controller can do next.
 
-ghost use Rattle.std.specs.Prelude.{◌≡◌, ◌≤◌, length, slice_get};
+ghost use Rattle.std.specs.Prelude.{◌≡◌, slice_get};
 ghost use Rattle.nvmesgl_c.specs.ControllerKept.{kept_in};
 ghost use Rattle.nvmesgl_c.specs.ControllerNext as next;
 ghost use Rattle.nvmesgl_c.specs.ControllerNext.{Sees, TellsNext};
 
 use crate::controller::calls::take_for;
 use crate::controller::handle::Handle;
-use crate::words::LentRecord;
 use crate::words::code::DONE;
+use crate::words::{LentMemory, Recorded, or_code};
 use arrayvec::ArrayVec;
 use controller_core::{Controller, ControllerStep};
 use std::alloc::Global;
@@ -45,27 +45,30 @@ pub(crate) fn step_of(step: Option<ControllerStep>) -> CStep
     }
 }
 
-/// Looks for a step over a memory that is lent: the borrow is the same one afterwards.
-fn look_over(controller: &Controller, memory: &mut LentRecord) -> Option<ControllerStep>
-    ensures same { memory.new.bytes.ghost_name ≡ memory.old.bytes.ghost_name }
-    ensures kept { slice_get memory.new.bytes.now ≡ slice_get memory.old.bytes.now }
-    ensures sees { Sees controller.now (slice_get memory.old.bytes.now) result }
+/// Looks for a step over a memory that is lent and recorded: both borrows are the same ones afterwards.
+fn look_over(
+    controller: &Controller,
+    memory: &mut Recorded<'_, LentMemory<'_>>,
+) -> Option<ControllerStep>
+    ensures lent { memory.new.lent.ghost_name ≡ memory.old.lent.ghost_name }
+    ensures same { memory.new.lent.now.bytes.ghost_name ≡ memory.old.lent.now.bytes.ghost_name }
+    ensures kept { slice_get memory.new.lent.now.bytes.now ≡ slice_get memory.old.lent.now.bytes.now }
+    ensures sees { Sees controller.now (slice_get memory.old.lent.now.bytes.now) result }
 {
     controller.next_step(memory)
 }
 
-/// Looks for a step over the bytes of a pool.
-fn look(controller: &Controller, pool: &mut [u8]) -> Option<ControllerStep>
-    requires few { length pool.old ≤ 268435456 }
-    ensures kept { slice_get pool.new ≡ slice_get pool.old }
-    ensures sees { Sees controller.now (slice_get pool.old) result }
+/// Looks for a step over a memory that is lent: the borrow is the same one afterwards.
+fn look(controller: &Controller, memory: &mut LentMemory<'_>) -> Option<ControllerStep>
+    ensures same { memory.new.bytes.ghost_name ≡ memory.old.bytes.ghost_name }
+    ensures kept { slice_get memory.new.bytes.now ≡ slice_get memory.old.bytes.now }
+    ensures sees { Sees controller.now (slice_get memory.old.bytes.now) result }
 {
-    let mut memory = LentRecord {
-        bytes: pool,
-        touched: ArrayVec::new(),
+    let mut recorded = Recorded {
+        lent: memory,
         unlisted: 0,
     };
-    look_over(controller, &mut memory)
+    look_over(controller, &mut recorded)
 }
 
 /// Tells what the controller can do, if there is anything. It does nothing.
@@ -78,11 +81,12 @@ pub extern "C" fn nvmectl_next(
 ) -> u32
     ensures { TellsNext (kept_in handle.old) pool.old result step.old step.new (kept_in handle.new) pool.new }
 {
-    let controller = match take_for(alloc, handle, pool.len()) {
-        Ok(controller) => controller,
-        Err(code) => return code,
+    let controller = or_code!(take_for(alloc, handle, pool.len()));
+    let mut memory = LentMemory {
+        bytes: pool,
+        touched: ArrayVec::new(),
     };
-    *step = step_of(look(&controller, pool));
+    *step = step_of(look(&controller, &mut memory));
     handle.put(controller);
     DONE
 }

@@ -5,11 +5,10 @@ ghost use Rattle.nvmesgl_c.specs.ControllerKept.{Closes, kept_in};
 ghost use Rattle.nvmesgl_c.specs.ControllerCalls.{Resets};
 ghost use Rattle.nvmesgl_c.specs.ControllerOptions.{Opens, IsOpened, IsWhy};
 
-use crate::controller::code::code_of_not_opened;
 use crate::controller::handle::Handle;
-use crate::controller::options::{CQueue, NotOpened, Options, entries_of, pages_of};
+use crate::controller::options::{CQueue, Options, entries_of, pages_of};
 use crate::words::code::DONE;
-use crate::words::image_for;
+use crate::words::{NotOpened, code_of_not_opened, image_for, or_code};
 use block_image::ImageError;
 use controller_core::Controller;
 use std::alloc::Global;
@@ -80,10 +79,7 @@ pub extern "C" fn nvmectl_close(alloc: Global, handle: &mut Handle)
 pub extern "C" fn nvmectl_reset(alloc: Global, handle: &mut Handle) -> u32
     ensures { Resets (kept_in handle.old) result (kept_in handle.new) }
 {
-    let mut controller = match handle.take(alloc) {
-        Ok(controller) => controller,
-        Err(code) => return code,
-    };
+    let mut controller = or_code!(handle.take(alloc));
     controller.reset();
     handle.put(controller);
     DONE

@@ -4,8 +4,9 @@ ghost use Rattle.std.specs.Prelude.{◌≡◌, ◌≤◌, IfOk, OnOk, length, ma
 ghost use Rattle.std.specs.Result.{result_err};
 ghost use Rattle.nvmesgl_c.specs.ControllerOptions as options;
 
-use crate::words::has_set_word;
+use crate::words::{NotOpened, fault_of_form};
 use controller_core::QueuePages;
+use machine_model::words::OpenRefusal;
 use page_memory::PageNo;
 use std::alloc::{AllocError, Global};
 
@@ -36,21 +37,6 @@ pub struct CQueue {
     pub cq: u32,
 }
 
-/// Why a controller was not opened: the first of these that holds.
-#[derive(Clone, Copy, Debug, PartialEq, Eq)]
-pub enum NotOpened {
-    /// The options have another size.
-    BadSize,
-    /// A reserved word is not 0.
-    BadOption,
-    /// A ring has no such number of entries, or there are more than 65,536 queues.
-    BadConfig,
-    /// The image is not 1 to 65,536 whole blocks.
-    BadImage,
-    /// Memory was refused.
-    Memory,
-}
-
 /// The entries of each ring.
 ///
 /// # Errors
@@ -63,14 +49,11 @@ pub(crate) fn entries_of(given: &Options, queues: &[CQueue]) -> Result<u16, NotO
     ensures most { IfOk result (λ entries. entries ≤ 1024) }
     ensures few { OnOk result (length queues.now ≤ 65536) }
 {
-    if given.size != SIZE {
-        return Err(NotOpened::BadSize);
-    }
-    if has_set_word(&given.reserved) {
-        return Err(NotOpened::BadOption);
+    if let Some(why) = fault_of_form(given.size, SIZE, &given.reserved) {
+        return Err(why);
     }
     if given.entries < 2 || given.entries > 1024 || queues.len() > 65_536 {
-        return Err(NotOpened::BadConfig);
+        return Err(NotOpened::Refused(OpenRefusal::BadConfig));
     }
     Ok(given.entries as u16)
 }

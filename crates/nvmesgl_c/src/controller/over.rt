@@ -1,16 +1,15 @@
-//! The controller's calls over the bytes of a pool.
+//! The controller's calls over the bytes of a pool that is lent.
 
-ghost use Rattle.std.specs.Prelude.{◌≡◌, ◌≤◌, ◌/◌, [], length, slice_get};
+ghost use Rattle.std.specs.Prelude.{◌≡◌, ◌/◌, [], length, slice_get};
 ghost use Rattle.nvmesgl_c.specs.ControllerCalls.{FetchesBy, WalksBy, CompletesBy};
 
 use crate::controller::code::code_of_refusal;
 use crate::words::code::DONE;
 use crate::words::{Answer, LentMemory, touching, walked};
-use arrayvec::ArrayVec;
 use controller_core::Controller;
 
 /// Fetches over a memory that is lent, and tells what was fetched. The borrow is the same one afterwards.
-fn fetch_over(
+pub(crate) fn fetch(
     controller: &mut Controller,
     q: u16,
     memory: &mut LentMemory,
@@ -32,7 +31,7 @@ fn fetch_over(
 }
 
 /// Does a unit of a command's list over a memory that is lent, and tells how the list stands. The borrow is the same one afterwards.
-fn walk_over(
+pub(crate) fn walk(
     controller: &mut Controller,
     q: u16,
     cid: u16,
@@ -56,7 +55,7 @@ fn walk_over(
 }
 
 /// Completes a command over a memory that is lent. The borrow is the same one afterwards.
-fn complete_over(
+pub(crate) fn complete(
     controller: &mut Controller,
     q: u16,
     cid: u16,
@@ -73,57 +72,4 @@ fn complete_over(
         Ok(()) => DONE,
         Err(why) => code_of_refusal(why),
     }
-}
-
-/// Fetches over the bytes of a pool.
-pub(crate) fn fetch(
-    controller: &mut Controller,
-    q: u16,
-    pool: &mut [u8],
-    answer: &mut Answer,
-) -> u32
-    requires { length pool.old ≤ 268435456 }
-    ensures { FetchesBy q controller.old (length pool.old / 4096) (slice_get pool.old) result answer.new controller.new (slice_get pool.new) }
-{
-    let mut memory = LentMemory {
-        bytes: pool,
-        touched: ArrayVec::new(),
-    };
-    fetch_over(controller, q, &mut memory, answer)
-}
-
-/// Does a unit of a command's list over the bytes of a pool.
-pub(crate) fn walk(
-    controller: &mut Controller,
-    q: u16,
-    cid: u16,
-    pool: &mut [u8],
-    answer: &mut Answer,
-) -> u32
-    requires { length pool.old ≤ 268435456 }
-    ensures { WalksBy q cid controller.old (length pool.old / 4096) (slice_get pool.old) result answer.new controller.new (slice_get pool.new) }
-{
-    let mut memory = LentMemory {
-        bytes: pool,
-        touched: ArrayVec::new(),
-    };
-    walk_over(controller, q, cid, &mut memory, answer)
-}
-
-/// Completes a command over the bytes of a pool.
-pub(crate) fn complete(
-    controller: &mut Controller,
-    q: u16,
-    cid: u16,
-    pool: &mut [u8],
-    answer: &mut Answer,
-) -> u32
-    requires { length pool.old ≤ 268435456 }
-    ensures { CompletesBy q cid controller.old (length pool.old / 4096) (slice_get pool.old) result answer.new controller.new (slice_get pool.new) }
-{
-    let mut memory = LentMemory {
-        bytes: pool,
-        touched: ArrayVec::new(),
-    };
-    complete_over(controller, q, cid, &mut memory, answer)
 }

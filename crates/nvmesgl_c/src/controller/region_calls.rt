@@ -10,7 +10,8 @@ use crate::controller::handle::Handle;
 use crate::controller::next::{CStep, step_of};
 use crate::controller::regions::{complete, fetch, look, walk};
 use crate::words::code::DONE;
-use crate::words::{Answer, CRegion, nothing};
+use crate::words::{Answer, CRegion, LentRegions, nothing, or_code, pages_in};
+use arrayvec::ArrayVec;
 use std::alloc::Global;
 
 /// The controller fetches an entry. Its identifier is told.
@@ -27,11 +28,14 @@ pub extern "C" fn nvmectl_fetch_over(
     ensures hidden { hidden_in regions.new ≡ hidden_in regions.old }
 {
     *answer = nothing();
-    let mut controller = match handle.take(alloc) {
-        Ok(controller) => controller,
-        Err(code) => return code,
+    let mut controller = or_code!(handle.take(alloc));
+    let pages = pages_in(regions);
+    let mut memory = LentRegions {
+        regions,
+        pages,
+        touched: ArrayVec::new(),
     };
-    let code = fetch(&mut controller, q, regions, answer);
+    let code = fetch(&mut controller, q, &mut memory, answer);
     handle.put(controller);
     code
 }
@@ -51,11 +55,14 @@ pub extern "C" fn nvmectl_walk_over(
     ensures hidden { hidden_in regions.new ≡ hidden_in regions.old }
 {
     *answer = nothing();
-    let mut controller = match handle.take(alloc) {
-        Ok(controller) => controller,
-        Err(code) => return code,
+    let mut controller = or_code!(handle.take(alloc));
+    let pages = pages_in(regions);
+    let mut memory = LentRegions {
+        regions,
+        pages,
+        touched: ArrayVec::new(),
     };
-    let code = walk(&mut controller, q, cid, regions, answer);
+    let code = walk(&mut controller, q, cid, &mut memory, answer);
     handle.put(controller);
     code
 }
@@ -75,11 +82,14 @@ pub extern "C" fn nvmectl_complete_over(
     ensures hidden { hidden_in regions.new ≡ hidden_in regions.old }
 {
     *answer = nothing();
-    let mut controller = match handle.take(alloc) {
-        Ok(controller) => controller,
-        Err(code) => return code,
+    let mut controller = or_code!(handle.take(alloc));
+    let pages = pages_in(regions);
+    let mut memory = LentRegions {
+        regions,
+        pages,
+        touched: ArrayVec::new(),
     };
-    let code = complete(&mut controller, q, cid, regions, answer);
+    let code = complete(&mut controller, q, cid, &mut memory, answer);
     handle.put(controller);
     code
 }
@@ -96,11 +106,14 @@ pub extern "C" fn nvmectl_next_over(
     ensures table { table_of regions.new ≡ table_of regions.old }
     ensures hidden { hidden_in regions.new ≡ hidden_in regions.old }
 {
-    let controller = match handle.take(alloc) {
-        Ok(controller) => controller,
-        Err(code) => return code,
+    let controller = or_code!(handle.take(alloc));
+    let pages = pages_in(regions);
+    let mut memory = LentRegions {
+        regions,
+        pages,
+        touched: ArrayVec::new(),
     };
-    *step = step_of(look(&controller, regions));
+    *step = step_of(look(&controller, &mut memory));
     handle.put(controller);
     DONE
 }

@@ -1,18 +1,17 @@
-//! The controller's calls over regions of memory.
+//! The controller's calls over regions of memory that are lent.
 
 ghost use Rattle.std.specs.Prelude.{◌≡◌, []};
 ghost use Rattle.nvmesgl_c.specs.ControllerCalls.{FetchesBy, WalksBy, CompletesBy};
 ghost use Rattle.nvmesgl_c.specs.ControllerNext.{Sees};
-ghost use Rattle.nvmesgl_c.specs.Regions.{hidden_in, memory_of, pages_of, table_of};
+ghost use Rattle.nvmesgl_c.specs.Regions.{hidden_in, memory_of, table_of};
 
 use crate::controller::code::code_of_refusal;
 use crate::words::code::DONE;
-use crate::words::{Answer, CRegion, LentRegions, LentRegionsRecord, pages_in, touching, walked};
-use arrayvec::ArrayVec;
+use crate::words::{Answer, LentRegions, Recorded, touching, walked};
 use controller_core::{Controller, ControllerStep};
 
 /// Fetches over a memory that is lent, and tells what was fetched. The borrow, the table and what no address shows are the same afterwards.
-fn fetch_over(
+pub(crate) fn fetch(
     controller: &mut Controller,
     q: u16,
     memory: &mut LentRegions<'_, '_>,
@@ -36,7 +35,7 @@ fn fetch_over(
 }
 
 /// Does a unit of a command's list over a memory that is lent, and tells how the list stands. The borrow, the table and what no address shows are the same afterwards.
-fn walk_over(
+pub(crate) fn walk(
     controller: &mut Controller,
     q: u16,
     cid: u16,
@@ -62,7 +61,7 @@ fn walk_over(
 }
 
 /// Completes a command over a memory that is lent. The borrow, the table and what no address shows are the same afterwards.
-fn complete_over(
+pub(crate) fn complete(
     controller: &mut Controller,
     q: u16,
     cid: u16,
@@ -83,10 +82,25 @@ fn complete_over(
     }
 }
 
-/// Looks for a step over a memory that is lent. The borrow, the table and what no address shows are the same afterwards.
+/// Looks for a step over a memory that is lent and recorded. Both borrows, the table and what no address shows are the same afterwards.
 fn look_over(
     controller: &Controller,
-    memory: &mut LentRegionsRecord<'_, '_>,
+    memory: &mut Recorded<'_, LentRegions<'_, '_>>,
+) -> Option<ControllerStep>
+    ensures lent { memory.new.lent.ghost_name ≡ memory.old.lent.ghost_name }
+    ensures same { memory.new.lent.now.regions.ghost_name ≡ memory.old.lent.now.regions.ghost_name }
+    ensures table { table_of memory.new.lent.now.regions.now ≡ table_of memory.old.lent.now.regions.now }
+    ensures hidden { hidden_in memory.new.lent.now.regions.now ≡ hidden_in memory.old.lent.now.regions.now }
+    ensures kept { memory_of memory.new.lent.now.regions.now ≡ memory_of memory.old.lent.now.regions.now }
+    ensures sees { Sees controller.now (memory_of memory.old.lent.now.regions.now) result }
+{
+    controller.next_step(memory)
+}
+
+/// Looks for a step over a memory that is lent. The borrow, the table and what no address shows are the same afterwards.
+pub(crate) fn look(
+    controller: &Controller,
+    memory: &mut LentRegions<'_, '_>,
 ) -> Option<ControllerStep>
     ensures same { memory.new.regions.ghost_name ≡ memory.old.regions.ghost_name }
     ensures table { table_of memory.new.regions.now ≡ table_of memory.old.regions.now }
@@ -94,84 +108,9 @@ fn look_over(
     ensures kept { memory_of memory.new.regions.now ≡ memory_of memory.old.regions.now }
     ensures sees { Sees controller.now (memory_of memory.old.regions.now) result }
 {
-    controller.next_step(memory)
-}
-
-/// Fetches over regions.
-pub(crate) fn fetch(
-    controller: &mut Controller,
-    q: u16,
-    regions: &mut [CRegion<'_>],
-    answer: &mut Answer,
-) -> u32
-    ensures fetches { FetchesBy q controller.old (pages_of regions.old) (memory_of regions.old) result answer.new controller.new (memory_of regions.new) }
-    ensures table { table_of regions.new ≡ table_of regions.old }
-    ensures hidden { hidden_in regions.new ≡ hidden_in regions.old }
-{
-    let pages = pages_in(regions);
-    let mut memory = LentRegions {
-        regions,
-        pages,
-        touched: ArrayVec::new(),
-    };
-    fetch_over(controller, q, &mut memory, answer)
-}
-
-/// Does a unit of a command's list over regions.
-pub(crate) fn walk(
-    controller: &mut Controller,
-    q: u16,
-    cid: u16,
-    regions: &mut [CRegion<'_>],
-    answer: &mut Answer,
-) -> u32
-    ensures walks { WalksBy q cid controller.old (pages_of regions.old) (memory_of regions.old) result answer.new controller.new (memory_of regions.new) }
-    ensures table { table_of regions.new ≡ table_of regions.old }
-    ensures hidden { hidden_in regions.new ≡ hidden_in regions.old }
-{
-    let pages = pages_in(regions);
-    let mut memory = LentRegions {
-        regions,
-        pages,
-        touched: ArrayVec::new(),
-    };
-    walk_over(controller, q, cid, &mut memory, answer)
-}
-
-/// Completes a command over regions.
-pub(crate) fn complete(
-    controller: &mut Controller,
-    q: u16,
-    cid: u16,
-    regions: &mut [CRegion<'_>],
-    answer: &mut Answer,
-) -> u32
-    ensures completes { CompletesBy q cid controller.old (pages_of regions.old) (memory_of regions.old) result answer.new controller.new (memory_of regions.new) }
-    ensures table { table_of regions.new ≡ table_of regions.old }
-    ensures hidden { hidden_in regions.new ≡ hidden_in regions.old }
-{
-    let pages = pages_in(regions);
-    let mut memory = LentRegions {
-        regions,
-        pages,
-        touched: ArrayVec::new(),
-    };
-    complete_over(controller, q, cid, &mut memory, answer)
-}
-
-/// Looks for a step over regions.
-pub(crate) fn look(controller: &Controller, regions: &mut [CRegion<'_>]) -> Option<ControllerStep>
-    ensures kept { memory_of regions.new ≡ memory_of regions.old }
-    ensures table { table_of regions.new ≡ table_of regions.old }
-    ensures hidden { hidden_in regions.new ≡ hidden_in regions.old }
-    ensures sees { Sees controller.now (memory_of regions.old) result }
-{
-    let pages = pages_in(regions);
-    let mut memory = LentRegionsRecord {
-        regions,
-        pages,
-        touched: ArrayVec::new(),
+    let mut recorded = Recorded {
+        lent: memory,
         unlisted: 0,
     };
-    look_over(controller, &mut memory)
+    look_over(controller, &mut recorded)
 }

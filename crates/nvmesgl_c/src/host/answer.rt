@@ -3,8 +3,7 @@
 ghost use Rattle.std.specs.Prelude.{◌≡◌};
 ghost use Rattle.nvmesgl_c.specs.HostAnswers as answers;
 
-use crate::host::options::NotOpened;
-use crate::words::{Answer, ended, not_opened, nothing, reaped, refused};
+use crate::words::{Answer, ended, nothing, reaped, refused};
 use host_bench::{Doorbell, Reply};
 
 /// A value for a doorbell register, where there is one.
@@ -66,19 +65,15 @@ pub(crate) fn told(reply: &Result<Reply, u32>) -> Answer
 pub(crate) fn shown_bell(bell: Option<Doorbell>) -> CDoorbell
     ensures { result ≡ answers.shown_bell bell }
 {
-    match bell {
-        Some(bell) => CDoorbell {
-            offset: bell.offset,
-            value: bell.value,
-            rings: true,
-            reserved: [0; 4],
-        },
-        None => CDoorbell {
-            offset: 0,
-            value: 0,
-            rings: false,
-            reserved: [0; 4],
-        },
+    let (offset, value, rings) = match bell {
+        Some(bell) => (bell.offset, bell.value, true),
+        None => (0, 0, false),
+    };
+    CDoorbell {
+        offset,
+        value,
+        rings,
+        reserved: [0; 4],
     }
 }
 
@@ -100,15 +95,5 @@ pub(crate) fn bell_of(reply: &Result<Reply, u32>) -> CDoorbell
     match reply {
         Ok(reply) => bell_in(reply),
         Err(_) => shown_bell(None),
-    }
-}
-
-/// What an opening that was not done tells.
-pub(crate) fn told_not_opened(why: NotOpened) -> Answer
-    ensures { result ≡ answers.told_not_opened why }
-{
-    match why {
-        NotOpened::Refused(why) => not_opened(why),
-        NotOpened::BadSize | NotOpened::BadOption | NotOpened::Memory => nothing(),
     }
 }

@@ -7,7 +7,7 @@ ghost use Rattle.nvmesgl_c.specs.HostCalls.{DoesKept, Says, Refuses};
 use crate::host::answer::told;
 use crate::host::code::code_of_reply;
 use crate::host::handle::Handle;
-use crate::words::{Answer, nothing};
+use crate::words::{Answer, nothing, or_code};
 use host_bench::{Call, Reply};
 use std::alloc::Global;
 
@@ -19,13 +19,7 @@ use std::alloc::Global;
 pub(crate) fn make(alloc: Global, handle: &mut Handle, what: Call) -> Result<Reply, u32>
     ensures { DoesKept (kept_in handle.old) what result (kept_in handle.new) }
 {
-    let mut kept = match handle.take(alloc) {
-        Ok(kept) => kept,
-        Err(code) => {
-            drop(what);
-            return Err(code);
-        }
-    };
+    let mut kept = handle.take(alloc)?;
     let answer = kept.bench.call(what);
     handle.put(kept);
     Ok(answer)
@@ -45,10 +39,7 @@ pub(crate) fn refuse(alloc: Global, handle: &mut Handle, code: u32, answer: &mut
     ensures { Refuses (kept_in handle.old) code result answer.new (kept_in handle.new) }
 {
     *answer = nothing();
-    let bench = match handle.take(alloc) {
-        Ok(bench) => bench,
-        Err(code) => return code,
-    };
+    let bench = or_code!(handle.take(alloc));
     handle.put(bench);
     code
 }

@@ -9,7 +9,7 @@ use crate::host::answer::{CDoorbell, bell_in, shown_bell, told_of};
 use crate::host::code::code_of_answer;
 use crate::host::handle::Handle;
 use crate::host::tagged::tag_of;
-use crate::words::{Answer, nothing};
+use crate::words::{Answer, nothing, or_code};
 use host_bench::{Call, Reaped, Reply};
 use slot_table::LinkedTable;
 use std::alloc::Global;
@@ -63,10 +63,7 @@ pub extern "C" fn nvmehost_reap(
 {
     *bell = shown_bell(None);
     *answer = nothing();
-    let mut kept = match handle.take(alloc) {
-        Ok(kept) => kept,
-        Err(code) => return code,
-    };
+    let mut kept = or_code!(handle.take(alloc));
     let reply = kept.bench.call(Call::Reap { q });
     *bell = bell_in(&reply);
     *answer = told_ended(&kept.tags, q, found_in(&reply), &reply);
@@ -86,10 +83,7 @@ pub extern "C" fn nvmehost_collect(
     ensures { Collects (kept_in handle.old) q cid result answer.new (kept_in handle.new) }
 {
     *answer = nothing();
-    let mut kept = match handle.take(alloc) {
-        Ok(kept) => kept,
-        Err(code) => return code,
-    };
+    let mut kept = or_code!(handle.take(alloc));
     let reply = kept.bench.call(Call::Collect { q, cid });
     *answer = told_ended(&kept.tags, q, collected_in(cid, &reply), &reply);
     handle.put(kept);

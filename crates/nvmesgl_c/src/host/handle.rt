@@ -1,6 +1,6 @@
 //! A host that C keeps between its calls.
 
-ghost use Rattle.std.specs.Prelude.{◌≡◌, Option, None, Some, Ok, Err, IfOk, IfErr, OnOk};
+ghost use Rattle.std.specs.Prelude.{◌≡◌, Option, Ok, Err, IfOk, IfErr, OnOk};
 ghost use Rattle.nvmesgl_c.specs.declared.host.tagged.Tagged.{Tagged};
 ghost use Rattle.nvmesgl_c.specs.Keeping.{IsMarked};
 ghost use Rattle.nvmesgl_c.specs.HostOwned.{bench_coded, kept_owns, own_mark};
@@ -68,35 +68,6 @@ pub struct Handle {
 impl Handle {
     ghost use Rattle.nvmesgl_c.specs.HostKept.{IsClosed, cause_in, code_in, kept_in};
 
-    /// A handle that keeps a host.
-    fn of(host: Box<Tagged, Global>) -> Handle
-        ensures { result.kept.bench ≡ Some host.value }
-    {
-        Handle {
-            kept: Kept::of_held(Held::of(host)),
-            mark: OWN_MARK,
-        }
-    }
-
-    /// A handle that is closed.
-    fn closed(alloc: Global) -> Handle
-        ensures none { result.kept.bench ≡ None }
-        ensures closed { result.mark ≡ 0 }
-    {
-        Handle {
-            kept: Kept::of_held(Held::none(alloc)),
-            mark: 0,
-        }
-    }
-
-    /// What is kept.
-    fn into_kept(self) -> Kept
-        ensures { result.bench ≡ self.kept.bench }
-    {
-        let Handle { kept, mark: _ } = self;
-        kept
-    }
-
     /// Takes the host out for a call. A handle that keeps none stays as it is.
     ///
     /// # Errors
@@ -111,7 +82,8 @@ impl Handle {
         ensures code { IfErr result (λ code. code ≡ code_in self.old) }
     {
         if self.mark == OWN_MARK {
-            let kept = replace(self, Handle::closed(alloc)).into_kept();
+            let kept = replace(&mut self.kept, Kept::of_held(Held::none(alloc)));
+            self.mark = 0;
             return Ok(kept.into_held().into_box());
         }
         Err(code_of_mark(self.mark))
@@ -121,7 +93,10 @@ impl Handle {
     pub fn put(&mut self, host: Box<Tagged, Global>)
         ensures { kept_in self.new ≡ Ok host.value }
     {
-        *self = Handle::of(host);
+        *self = Handle {
+            kept: Kept::of_held(Held::of(host)),
+            mark: OWN_MARK,
+        };
     }
 
     /// What an opening is refused with for what the handle is: it is open, or none of this kind.

@@ -8,7 +8,7 @@ ghost use Rattle.nvmesgl_c.specs.HostLooks.{FindsOwner, FindsQueue, TellsCounts,
 use crate::host::code::NO_QUEUE;
 use crate::host::handle::Handle;
 use crate::words::code::{DONE, NO_PAGE};
-use crate::words::{COwner, owner_of};
+use crate::words::{COwner, or_code, owner_of};
 use host_bench::{HostBench, HostPositions, HostState, Owner, PageNo, QueueMemory, Run};
 use std::alloc::Global;
 
@@ -146,10 +146,7 @@ fn pages_of(bench: &HostBench) -> CPages
 pub extern "C" fn nvmehost_counts(alloc: Global, handle: &mut Handle, pages: &mut CPages) -> u32
     ensures { TellsCounts (kept_in handle.old) result pages.old pages.new (kept_in handle.new) }
 {
-    let kept = match handle.take(alloc) {
-        Ok(kept) => kept,
-        Err(code) => return code,
-    };
+    let kept = or_code!(handle.take(alloc));
     *pages = pages_of(&kept.bench);
     handle.put(kept);
     DONE
@@ -165,19 +162,14 @@ pub extern "C" fn nvmehost_owner(
 ) -> u32
     ensures { TellsOwner (kept_in handle.old) page result owner.old owner.new (kept_in handle.new) }
 {
-    let kept = match handle.take(alloc) {
-        Ok(kept) => kept,
-        Err(code) => return code,
-    };
+    let kept = or_code!(handle.take(alloc));
     let found = find_owner(&kept.bench, page);
     handle.put(kept);
-    match found {
-        Some(found) => {
-            *owner = owner_of(found);
-            DONE
-        }
-        None => NO_PAGE,
-    }
+    let Some(found) = found else {
+        return NO_PAGE;
+    };
+    *owner = owner_of(found);
+    DONE
 }
 
 /// Tells what the host knows of a queue, and where it stands in its rings.
@@ -190,17 +182,12 @@ pub extern "C" fn nvmehost_look(
 ) -> u32
     ensures { TellsQueue (kept_in handle.old) q result queue.old queue.new (kept_in handle.new) }
 {
-    let kept = match handle.take(alloc) {
-        Ok(kept) => kept,
-        Err(code) => return code,
-    };
+    let kept = or_code!(handle.take(alloc));
     let found = find_queue(&kept.bench, q);
     handle.put(kept);
-    match found {
-        Some(found) => {
-            *queue = found;
-            DONE
-        }
-        None => NO_QUEUE,
-    }
+    let Some(found) = found else {
+        return NO_QUEUE;
+    };
+    *queue = found;
+    DONE
 }

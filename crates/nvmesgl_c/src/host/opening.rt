@@ -4,14 +4,15 @@ ghost use Rattle.std.specs.Prelude.{◌≡◌, IfOk, IfErr};
 ghost use Rattle.nvmesgl_c.specs.HostKept.{Closes, kept_in};
 ghost use Rattle.nvmesgl_c.specs.HostOptions.{Opens, IsOpened, IsWhy};
 
-use crate::host::answer::told_not_opened;
-use crate::host::code::code_of_not_opened;
 use crate::host::handle::Handle;
-use crate::host::options::{NotOpened, Options, config_of, fault_of};
+use crate::host::options::{Options, SIZE};
 use crate::host::tagged::Tagged;
 use crate::words::code::DONE;
-use crate::words::{Answer, nothing};
+use crate::words::{
+    Answer, NotOpened, code_of_not_opened, fault_of_form, nothing, told_not_opened,
+};
 use host_bench::HostBench;
+use host_core::Config;
 use slot_table::LinkedTable;
 use std::alloc::Global;
 
@@ -20,10 +21,16 @@ fn open_bench(alloc: Global, given: &Options) -> Result<Box<Tagged, Global>, Not
     ensures opened { IfOk result (λ bench. IsOpened given.now bench.value) }
     ensures not_opened { IfErr result (λ why. IsWhy given.now why) }
 {
-    if let Some(why) = fault_of(given) {
+    if let Some(why) = fault_of_form(given.size, SIZE, &given.reserved) {
         return Err(why);
     }
-    match HostBench::open(alloc, config_of(given)) {
+    let config = Config {
+        pages: given.pages,
+        queues: given.queues,
+        entries: given.entries,
+        segment: given.segment,
+    };
+    match HostBench::open(alloc, config) {
         Ok(bench) => {
             let tags = LinkedTable::new(alloc);
             match Box::new(alloc, Tagged { bench, tags }) {

@@ -1,13 +1,7 @@
 //! What C opens a handle with.
 
-ghost use Rattle.std.specs.Prelude.{◌≡◌};
-ghost use Rattle.nvmesgl_c.specs.HostOptions as options;
-
-use crate::words::has_set_word;
-use host_core::{Config, OpenRefusal};
-
 /// How many bytes [`Options`] has.
-const SIZE: u32 = 32;
+pub(crate) const SIZE: u32 = 32;
 
 /// What a handle is opened with. A later version may give a meaning to a word that is reserved now.
 #[repr(C)]
@@ -25,42 +19,4 @@ pub struct Options {
     pub segment: u32,
     /// Zeros.
     pub reserved: [u32; 3],
-}
-
-/// Why a handle was not opened: the first of these that holds.
-#[derive(Clone, Copy, Debug, PartialEq, Eq)]
-pub enum NotOpened {
-    /// The options have another size.
-    BadSize,
-    /// A reserved word is not 0.
-    BadOption,
-    /// Memory was refused.
-    Memory,
-    /// The host does not open with these numbers.
-    Refused(OpenRefusal),
-}
-
-/// The configuration in the options.
-pub(crate) fn config_of(given: &Options) -> Config
-    ensures { result ≡ options.config_of given.now }
-{
-    Config {
-        pages: given.pages,
-        queues: given.queues,
-        entries: given.entries,
-        segment: given.segment,
-    }
-}
-
-/// What is wrong with the form of the options, if anything is.
-pub(crate) fn fault_of(given: &Options) -> Option<NotOpened>
-    ensures { result ≡ options.fault_of given.now }
-{
-    if given.size != SIZE {
-        return Some(NotOpened::BadSize);
-    }
-    if has_set_word(&given.reserved) {
-        return Some(NotOpened::BadOption);
-    }
-    None
 }

@@ -12,7 +12,7 @@ use crate::host::code::code_of_answer;
 use crate::host::handle::Handle;
 use crate::host::tagged::{Tagged, tag_of};
 use crate::words::code::DONE;
-use crate::words::{Answer, nothing, reaped};
+use crate::words::{Answer, nothing, or_code, reaped};
 use host_bench::{Call, Doorbell, Reaped, Reply};
 use std::alloc::Global;
 
@@ -172,10 +172,7 @@ pub extern "C" fn nvmehost_poll(
     *count = 0;
     *bell = shown_bell(None);
     *answer = nothing();
-    let mut kept = match handle.take(alloc) {
-        Ok(kept) => kept,
-        Err(code) => return code,
-    };
+    let mut kept = or_code!(handle.take(alloc));
     let polled = poll(&mut kept, q, ended);
     handle.put(kept);
     *count = polled.count;

@@ -7,6 +7,7 @@ ghost use Rattle.nvmesgl_c.specs.HostPool.{fits as spec_fits, Reads, ReadsFrom, 
 use crate::host::code::{BAD_LENGTH, PAGE_OUT};
 use crate::host::handle::Handle;
 use crate::words::code::DONE;
+use crate::words::or_code;
 use host_bench::HostBench;
 use std::alloc::Global;
 
@@ -53,10 +54,7 @@ pub extern "C" fn nvmehost_read(
 ) -> u32
     ensures { Reads (kept_in handle.old) addr result buffer.old buffer.new (kept_in handle.new) }
 {
-    let mut kept = match handle.take(alloc) {
-        Ok(kept) => kept,
-        Err(code) => return code,
-    };
+    let mut kept = or_code!(handle.take(alloc));
     let code = read_from(&mut kept.bench, addr, buffer);
     handle.put(kept);
     code
@@ -67,10 +65,7 @@ pub extern "C" fn nvmehost_read(
 pub extern "C" fn nvmehost_write(alloc: Global, handle: &mut Handle, addr: u64, bytes: &[u8]) -> u32
     ensures { Writes (kept_in handle.old) addr bytes.now result (kept_in handle.new) }
 {
-    let mut kept = match handle.take(alloc) {
-        Ok(kept) => kept,
-        Err(code) => return code,
-    };
+    let mut kept = or_code!(handle.take(alloc));
     let code = write_into(&mut kept.bench, addr, bytes);
     handle.put(kept);
     code

@@ -8,6 +8,7 @@ ghost use Rattle.nvmesgl_c.specs.HostReach.{LaysRuns, TellsPlace, TellsRight, Te
 use crate::host::code::NO_PIECE;
 use crate::host::handle::Handle;
 use crate::words::code::{DONE, TOO_SHORT};
+use crate::words::or_code;
 use host_bench::{DataPlace, PageNo, Right, Run, Runs};
 use std::alloc::Global;
 
@@ -100,10 +101,7 @@ pub extern "C" fn nvmehost_may(
 ) -> u32
     ensures { TellsRight (kept_in handle.old) page result right.old right.new (kept_in handle.new) }
 {
-    let kept = match handle.take(alloc) {
-        Ok(kept) => kept,
-        Err(code) => return code,
-    };
+    let kept = or_code!(handle.take(alloc));
     *right = number_of(kept.bench.may(PageNo(page)));
     handle.put(kept);
     DONE
@@ -121,10 +119,7 @@ pub extern "C" fn nvmehost_runs(
 ) -> u32
     ensures { TellsRuns (kept_in handle.old) q cid result buffer.old buffer.new count.old count.new (kept_in handle.new) }
 {
-    let kept = match handle.take(alloc) {
-        Ok(kept) => kept,
-        Err(code) => return code,
-    };
+    let kept = or_code!(handle.take(alloc));
     let (laid, all) = lay(kept.bench.runs(q, cid), buffer);
     *count = laid;
     handle.put(kept);
@@ -143,17 +138,12 @@ pub extern "C" fn nvmehost_data_place(
 ) -> u32
     ensures { TellsPlace (kept_in handle.old) q cid piece result place.old place.new (kept_in handle.new) }
 {
-    let kept = match handle.take(alloc) {
-        Ok(kept) => kept,
-        Err(code) => return code,
-    };
+    let kept = or_code!(handle.take(alloc));
     let found = kept.bench.place(q, cid, piece as usize);
     handle.put(kept);
-    match found {
-        Some(found) => {
-            *place = place_of(found);
-            DONE
-        }
-        None => NO_PIECE,
-    }
+    let Some(found) = found else {
+        return NO_PIECE;
+    };
+    *place = place_of(found);
+    DONE
 }

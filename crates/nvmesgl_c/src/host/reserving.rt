@@ -54,13 +54,7 @@ fn reserve_kept(
 ) -> Result<Reply, u32>
     ensures { ReservesKept (kept_in handle.old) q request tag result (kept_in handle.new) }
 {
-    let mut kept = match handle.take(alloc) {
-        Ok(kept) => kept,
-        Err(code) => {
-            drop(request);
-            return Err(code);
-        }
-    };
+    let mut kept = handle.take(alloc)?;
     let reply = reserve(&mut kept, q, request, tag);
     handle.put(kept);
     Ok(reply)

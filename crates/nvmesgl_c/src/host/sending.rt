@@ -98,14 +98,7 @@ fn send_kept(
 ) -> Result<Reply, u32>
     ensures { SendsKept (kept_in handle.old) q request bytes tag result (kept_in handle.new) }
 {
-    let mut kept = match handle.take(alloc) {
-        Ok(kept) => kept,
-        Err(code) => {
-            drop(request);
-            drop(bytes);
-            return Err(code);
-        }
-    };
+    let mut kept = handle.take(alloc)?;
     let told = send(&mut kept, q, request, bytes, tag);
     handle.put(kept);
     Ok(told)

@@ -3,8 +3,7 @@
 ghost use Rattle.std.specs.Prelude.{◌≡◌};
 ghost use Rattle.nvmesgl_c.specs.MachineAnswers as answers;
 
-use crate::machine::options::NotOpened;
-use crate::words::{Answer, ended, not_opened, nothing, reaped, refused, touching, walked};
+use crate::words::{Answer, ended, nothing, reaped, refused, touching, walked};
 use step_core::Reply;
 
 /// What a reply tells.
@@ -51,16 +50,5 @@ pub(crate) fn told(reply: &Result<Reply, u32>) -> Answer
     match reply {
         Ok(reply) => told_of(reply),
         Err(_) => nothing(),
-    }
-}
-
-/// What an opening that was not done tells.
-pub(crate) fn told_not_opened(why: NotOpened) -> Answer
-    ensures { result ≡ answers.told_not_opened why }
-{
-    match why {
-        NotOpened::Refused(why) => not_opened(why),
-        NotOpened::BadSize | NotOpened::BadOption | NotOpened::BadImage | NotOpened::Memory =>
-            nothing(),
     }
 }

@@ -153,14 +153,8 @@ fn finish(desk: &mut Desk, q: u16, cid: u16) -> Result<(Status, Bytes), Reply>
     ensures finished { IfOk result (λ end. Finishes desk.old q cid end.0 end.1 desk.new) }
     ensures failed { IfErr result (λ why. FirstFails desk.old (end_steps q cid) why desk.new) }
 {
-    let status = match collected(desk.step(Step::Collect { q, cid })) {
-        Ok(status) => status,
-        Err(why) => return Err(why),
-    };
-    let bytes = match gathered(desk.step(Step::Gather { q, cid })) {
-        Ok(bytes) => bytes,
-        Err(why) => return Err(why),
-    };
+    let status = collected(desk.step(Step::Collect { q, cid }))?;
+    let bytes = gathered(desk.step(Step::Gather { q, cid }))?;
     let released = desk.step(Step::Release { q, cid });
     if !is_accepted(&released) {
         return Err(released);

@@ -3,11 +3,7 @@
 ghost use Rattle.std.specs.Prelude.{◌≡◌};
 ghost use Rattle.nvmesgl_c.specs.MachineCodes as codes;
 
-use crate::machine::options::NotOpened;
-use crate::words::code::{
-    BAD_IMAGE, BAD_OPTION, BAD_SIZE, DONE, MEMORY, NO_VALUE, code_of_fill_fault,
-    code_of_open_refusal, code_of_refusal,
-};
+use crate::words::code::{DONE, NO_VALUE, code_of_fill_fault, code_of_refusal};
 use step_core::Reply;
 
 /// The code of what a step answered.
@@ -29,18 +25,5 @@ pub(crate) fn code_of_reply(reply: &Result<Reply, u32>) -> u32
     match reply {
         Ok(reply) => code_of_answer(reply),
         Err(code) => *code,
-    }
-}
-
-/// The code of an opening that was not done.
-pub(crate) fn code_of_not_opened(why: NotOpened) -> u32
-    ensures { result ≡ codes.code_of_not_opened why }
-{
-    match why {
-        NotOpened::BadSize => BAD_SIZE,
-        NotOpened::BadOption => BAD_OPTION,
-        NotOpened::BadImage => BAD_IMAGE,
-        NotOpened::Memory => MEMORY,
-        NotOpened::Refused(why) => code_of_open_refusal(why),
     }
 }

@@ -1,17 +1,18 @@
 //! A bench that ends where it is dropped.
 
-ghost use Rattle.std.specs.Prelude.{◌≡◌, IfOk, IfErr, IfNone, IsTrue, None, length};
-ghost use Rattle.machine_model.specs.Claims.{counts_of};
+ghost use Rattle.std.specs.Prelude.{◌≡◌, IfOk, IfErr, IfNone, IsTrue, None};
 ghost use Rattle.machine_model.specs.Script.{table};
+ghost use Rattle.nvmesgl_c.specs.MachineLooks as looks;
 ghost use Rattle.nvmesgl_c.specs.MachineLooks.{FindsOwner};
 ghost use Rattle.step_core.specs.Bench.{Does};
 ghost use Rattle.step_core.specs.Looks.{IsAtRest};
 ghost use Rattle.host_core.specs.Opening.{refusal_of_config, RefusesOpening};
 ghost use Rattle.step_core.specs.Opening.{opening_of};
 
+use crate::machine::looks::CCounts;
 use std::alloc::Global;
 use std::marker::Model;
-use step_core::{Config, ControllerStep, Counts, Image, OpenRefused, Owner, PageNo, Reply, Step};
+use step_core::{Config, ControllerStep, Image, OpenRefused, Owner, PageNo, Reply, Step};
 use world_bench::Bench;
 
 /// A bench that ends where it is dropped. Contracts see the bench's table.
@@ -38,31 +39,24 @@ impl Desk {
         ensures opened { IfOk result (λ desk. desk ≡ table (opening_of config image)) }
         ensures refused { IfErr result (λ refused. RefusesOpening config refused.why) }
     {
-        match Bench::open(alloc, config, image) {
-            Ok(bench) => Ok(Desk { bench }),
-            Err(refused) => Err(refused),
+        let bench = Bench::open(alloc, config, image)?;
+        Ok(Desk { bench })
+    }
+
+    /// How many pages the pool has and each class of them, and whether nothing was forged.
+    pub fn counts(&self) -> CCounts
+        ensures { result ≡ looks.counts_of self.now }
+    {
+        let counts = self.bench.counts();
+        CCounts {
+            pages: self.bench.pages(),
+            free_pages: counts.free_pages,
+            queue_pages: counts.queue_pages,
+            chain_pages: counts.chain_pages,
+            data_pages: counts.data_pages,
+            trusted: self.bench.trusted(),
+            reserved: [0; 4],
         }
-    }
-
-    /// How many pages each class has.
-    pub fn counts(&self) -> Counts
-        ensures { result ≡ counts_of self.now.world.host }
-    {
-        self.bench.counts()
-    }
-
-    /// How many pages the pool has.
-    pub fn pages(&self) -> u32
-        ensures { result ≡ length self.now.world.memory }
-    {
-        self.bench.pages()
-    }
-
-    /// Whether nothing was forged since the opening or the last reset.
-    pub fn trusted(&self) -> bool
-        ensures { result ≡ self.now.world.trusted }
-    {
-        self.bench.trusted()
     }
 
     /// The owner of a page; none where the pool has no such page.

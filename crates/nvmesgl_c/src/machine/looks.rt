@@ -1,14 +1,11 @@
 //! What a handle shows of the pool.
 
-ghost use Rattle.std.specs.Prelude.{◌≡◌, ◌<◌, length};
 ghost use Rattle.nvmesgl_c.specs.MachineKept.{kept_in};
-ghost use Rattle.nvmesgl_c.specs.MachineLooks as looks;
 ghost use Rattle.nvmesgl_c.specs.MachineLooks.{TellsCounts, TellsOwner};
 
-use crate::machine::desk::Desk;
 use crate::machine::handle::Handle;
 use crate::words::code::{DONE, NO_PAGE};
-use crate::words::{COwner, owner_of};
+use crate::words::{COwner, or_code, owner_of};
 use std::alloc::Global;
 
 /// How many pages a pool has and each class of them, and whether nothing was forged since the opening or the last reset.
@@ -31,32 +28,13 @@ pub struct CCounts {
     pub reserved: [u32; 4],
 }
 
-/// What a desk counts.
-fn counts_of(desk: &Desk) -> CCounts
-    ensures { result ≡ looks.counts_of desk.now }
-{
-    let counts = desk.counts();
-    CCounts {
-        pages: desk.pages(),
-        free_pages: counts.free_pages,
-        queue_pages: counts.queue_pages,
-        chain_pages: counts.chain_pages,
-        data_pages: counts.data_pages,
-        trusted: desk.trusted(),
-        reserved: [0; 4],
-    }
-}
-
 /// Tells how many pages the pool has and each class of them.
 #[unsafe(no_mangle)]
 pub extern "C" fn nvmesgl_counts(alloc: Global, handle: &mut Handle, counts: &mut CCounts) -> u32
     ensures { TellsCounts (kept_in handle.old) result counts.old counts.new (kept_in handle.new) }
 {
-    let desk = match handle.take(alloc) {
-        Ok(desk) => desk,
-        Err(code) => return code,
-    };
-    *counts = counts_of(&desk);
+    let desk = or_code!(handle.take(alloc));
+    *counts = desk.counts();
     handle.put(desk);
     DONE
 }
@@ -71,17 +49,12 @@ pub extern "C" fn nvmesgl_owner(
 ) -> u32
     ensures { TellsOwner (kept_in handle.old) page result owner.old owner.new (kept_in handle.new) }
 {
-    let desk = match handle.take(alloc) {
-        Ok(desk) => desk,
-        Err(code) => return code,
-    };
+    let desk = or_code!(handle.take(alloc));
     let found = desk.owner(page);
     handle.put(desk);
-    match found {
-        Some(found) => {
-            *owner = owner_of(found);
-            DONE
-        }
-        None => NO_PAGE,
-    }
+    let Some(found) = found else {
+        return NO_PAGE;
+    };
+    *owner = owner_of(found);
+    DONE
 }

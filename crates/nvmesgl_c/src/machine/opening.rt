@@ -5,13 +5,13 @@ ghost use Rattle.host_core.specs.Opening.{RefusesOpening};
 ghost use Rattle.nvmesgl_c.specs.MachineKept.{Closes, kept_in};
 ghost use Rattle.nvmesgl_c.specs.MachineOptions.{Opens, IsOpened, IsWhy};
 
-use crate::machine::answer::told_not_opened;
-use crate::machine::code::code_of_not_opened;
 use crate::machine::desk::Desk;
 use crate::machine::handle::Handle;
-use crate::machine::options::{NotOpened, Options, config_of, fault_of};
+use crate::machine::options::{Options, SIZE};
 use crate::words::code::DONE;
-use crate::words::{Answer, image_for, nothing};
+use crate::words::{
+    Answer, NotOpened, code_of_not_opened, fault_of_form, image_for, nothing, told_not_opened,
+};
 use host_core::Host;
 use std::alloc::Global;
 use step_core::{Config, ImageError, OpenRefusal};
@@ -34,10 +34,15 @@ fn open_desk(alloc: Global, given: &Options, bytes: &[u8]) -> Result<Box<Desk, G
     ensures opened { IfOk result (λ desk. IsOpened given.now bytes.now desk.value) }
     ensures not_opened { IfErr result (λ why. IsWhy given.now bytes.now why) }
 {
-    if let Some(why) = fault_of(given) {
+    if let Some(why) = fault_of_form(given.size, SIZE, &given.reserved) {
         return Err(why);
     }
-    let config = config_of(given);
+    let config = Config {
+        pages: given.pages,
+        queues: given.queues,
+        entries: given.entries,
+        segment: given.segment,
+    };
     let image = match image_for(alloc, given.blocks, bytes) {
         Ok(image) => image,
         Err(ImageError::BadLength) => return Err(NotOpened::BadImage),

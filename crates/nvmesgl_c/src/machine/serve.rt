@@ -8,7 +8,7 @@ ghost use Rattle.nvmesgl_c.specs.MachineServing.{Serves, ServesKept};
 use crate::machine::desk::Desk;
 use crate::machine::handle::Handle;
 use crate::words::code::{DONE, code_of_refusal};
-use crate::words::{Answer, nothing};
+use crate::words::{Answer, nothing, or_code};
 use machine_model::words::Refusal;
 use std::alloc::Global;
 use step_core::{ControllerStep, Reply, Step};
@@ -118,10 +118,7 @@ pub extern "C" fn nvmesgl_serve(alloc: Global, handle: &mut Handle, answer: &mut
     ensures { ServesKept (kept_in handle.old) result answer.new (kept_in handle.new) }
 {
     *answer = nothing();
-    let mut desk = match handle.take(alloc) {
-        Ok(desk) => desk,
-        Err(code) => return code,
-    };
+    let mut desk = or_code!(handle.take(alloc));
     let served = serve(&mut desk);
     handle.put(desk);
     *answer = told_serving(served);

@@ -7,7 +7,7 @@ ghost use Rattle.nvmesgl_c.specs.MachineCalls.{DoesKept, Says, Refuses};
 use crate::machine::answer::told;
 use crate::machine::code::code_of_reply;
 use crate::machine::handle::Handle;
-use crate::words::{Answer, nothing};
+use crate::words::{Answer, nothing, or_code};
 use std::alloc::Global;
 use step_core::{Reply, Step};
 
@@ -19,13 +19,7 @@ use step_core::{Reply, Step};
 pub(crate) fn do_step(alloc: Global, handle: &mut Handle, what: Step) -> Result<Reply, u32>
     ensures { DoesKept (kept_in handle.old) what result (kept_in handle.new) }
 {
-    let mut desk = match handle.take(alloc) {
-        Ok(desk) => desk,
-        Err(code) => {
-            drop(what);
-            return Err(code);
-        }
-    };
+    let mut desk = handle.take(alloc)?;
     let answer = desk.step(what);
     handle.put(desk);
     Ok(answer)
@@ -45,10 +39,7 @@ pub(crate) fn refuse(alloc: Global, handle: &mut Handle, code: u32, answer: &mut
     ensures { Refuses (kept_in handle.old) code result answer.new (kept_in handle.new) }
 {
     *answer = nothing();
-    let desk = match handle.take(alloc) {
-        Ok(desk) => desk,
-        Err(code) => return code,
-    };
+    let desk = or_code!(handle.take(alloc));
     handle.put(desk);
     code
 }

@@ -31,14 +31,7 @@ pub(crate) fn carry_kept(
 ) -> Result<Carried, u32>
     ensures { CarriesKept (kept_in handle.old) q request bytes result (kept_in handle.new) }
 {
-    let mut desk = match handle.take(alloc) {
-        Ok(desk) => desk,
-        Err(code) => {
-            drop(request);
-            drop(bytes);
-            return Err(code);
-        }
-    };
+    let mut desk = handle.take(alloc)?;
     let carried = carry(&mut desk, q, request, bytes);
     handle.put(desk);
     Ok(carried)
@@ -169,15 +162,8 @@ pub extern "C" fn nvmesgl_write(
 ) -> u32
     ensures { Sends (kept_in handle.old) q kind.Write slba bytes.now result answer.new (kept_in handle.new) ⊎ IsTurnedAway (kept_in handle.old) (length bytes.now) result answer.new (kept_in handle.new) }
 {
-    send(
-        alloc,
-        handle,
-        q,
-        Kind::Write,
-        slba,
-        &[CBytes { bytes }],
-        answer,
-    )
+    let sources = [CBytes { bytes }];
+    send(alloc, handle, q, Kind::Write, slba, &sources, answer)
 }
 
 /// Carries a Compare from its reservation to its release. Its status is told.
@@ -192,13 +178,6 @@ pub extern "C" fn nvmesgl_compare(
 ) -> u32
     ensures { Sends (kept_in handle.old) q kind.Compare slba bytes.now result answer.new (kept_in handle.new) ⊎ IsTurnedAway (kept_in handle.old) (length bytes.now) result answer.new (kept_in handle.new) }
 {
-    send(
-        alloc,
-        handle,
-        q,
-        Kind::Compare,
-        slba,
-        &[CBytes { bytes }],
-        answer,
-    )
+    let sources = [CBytes { bytes }];
+    send(alloc, handle, q, Kind::Compare, slba, &sources, answer)
 }

@@ -1,14 +1,28 @@
 //! The bytes that a caller lends for one call, as the memory of a controller.
 //!
 //! A [`LentMemory`] is a [`Dma`] over a slice: the byte at an address is that of the slice, and an address behind its end is unreadable. It serves
-//! who has a pool of his own, as an emulator has a guest's memory, and lends it a call at a time.
+//! who has a pool of his own, as an emulator has a guest's memory, and lends it a call at a time. Each memory that is lent is [`Lent`].
 
-ghost use Rattle.std.specs.Prelude.{◌≡◌, ◌+◌, ◌<◌, ◌≤◌, ◌++◌, length, true, false};
+ghost use Rattle.std.specs.Prelude.{◌≡◌, ◌+◌, ◌<◌, ◌≤◌, ◌++◌, [], length, true, false};
 ghost use Rattle.page_memory.specs.Memory.{pages_reached};
 ghost use Rattle.page_memory.specs.Pages.{with_bytes};
 
 use arrayvec::ArrayVec;
 use page_memory::{Dma, PageNo, Unreadable};
+
+/// Memory that is lent for one call, and lists the pages touched.
+pub trait Lent: Dma {
+    /// The pages touched, in order.
+    fn touched(&self) -> &ArrayVec<PageNo, 4>
+        ensures { result.now.items ≡ Self.reached self.now };
+
+    /// Empties the list.
+    fn clear(&mut self)
+        ensures touched { Self.reached self.new ≡ [] }
+        ensures memory { Self.memory self.new ≡ Self.memory self.old }
+        ensures unlisted { Self.unlisted self.new ≡ Self.unlisted self.old }
+        ensures pool { Self.page_count self.new ≡ Self.page_count self.old };
+}
 
 /// The most bytes that are lent: 65,536 pages.
 pub const MOST_BYTES: usize = 268_435_456;
@@ -89,5 +103,15 @@ impl<'a> Dma for LentMemory<'a> {
         touch(&mut self.touched, addr, bytes.len());
         put(self.bytes, addr as usize, bytes);
         Ok(())
+    }
+}
+
+impl<'a> Lent for LentMemory<'a> {
+    fn touched(&self) -> &ArrayVec<PageNo, 4> {
+        &self.touched
+    }
+
+    fn clear(&mut self) {
+        self.touched.clear();
     }
 }

@@ -2,10 +2,10 @@
 
 ghost use Rattle.std.specs.Prelude.{◌≡◌};
 
-use crate::words::lent::touch;
+use crate::words::lent::{Lent, touch};
 use crate::words::region::{CRegion, read_range, write_range};
 use arrayvec::ArrayVec;
-use page_memory::{Dma, PageNo, TouchRecord, Unreadable};
+use page_memory::{Dma, PageNo, Unreadable};
 
 /// Lent regions, and the pages touched through [`Dma`].
 #[derive(Drop)]
@@ -49,62 +49,12 @@ impl<'a, 'b> Dma for LentRegions<'a, 'b> {
     }
 }
 
-/// Lent regions, the pages touched through [`Dma`], and how many touches that list does not have any more: for a look that empties it.
-#[derive(Drop)]
-pub struct LentRegionsRecord<'a, 'b> {
-    /// The regions.
-    pub regions: &'a mut [CRegion<'b>],
-    /// How many pages there are up to the end of the region that ends last.
-    pub pages: u32,
-    /// The pages touched since the last `clear`, in order.
-    pub touched: ArrayVec<PageNo, 4>,
-    /// How many touches were taken off that list.
-    pub unlisted: u64,
-}
-
-impl<'a, 'b> Dma for LentRegionsRecord<'a, 'b> {
-    ghost use Rattle.nvmesgl_c.specs.Named.{named_memory};
-    ghost use Rattle.nvmesgl_c.specs.Regions.{hidden_in, lists_number, memory_of, number_of, paired, table_of};
-
-    // these stand behind all addresses, since each count here has another use
-    ghost memory = { λ m. named_memory (memory_of m.regions.now) (paired m.regions.ghost_name (paired (number_of (table_of m.regions.now)) (lists_number (hidden_in m.regions.now)))) };
-
-    ghost reached = { λ m. m.touched.items };
-
-    ghost unlisted = { λ m. m.unlisted };
-
-    ghost page_count = { λ m. m.pages };
-
-    fn pool_pages(&self) -> u32 {
-        self.pages
-    }
-
-    fn read(&mut self, addr: u64, into: &mut [u8]) -> Result<(), Unreadable> {
-        let regions = &mut *self.regions;
-        read_range(regions, addr, into)?;
-        touch(&mut self.touched, addr, into.len());
-        Ok(())
-    }
-
-    fn write(&mut self, addr: u64, bytes: &[u8]) -> Result<(), Unreadable> {
-        let regions = &mut *self.regions;
-        write_range(regions, addr, bytes)?;
-        touch(&mut self.touched, addr, bytes.len());
-        Ok(())
-    }
-}
-
-impl<'a, 'b> TouchRecord for LentRegionsRecord<'a, 'b> {
+impl<'a, 'b> Lent for LentRegions<'a, 'b> {
     fn touched(&self) -> &ArrayVec<PageNo, 4> {
         &self.touched
     }
 
-    fn touches(&self) -> u64 {
-        self.unlisted.wrapping_add(self.touched.len() as u64)
-    }
-
     fn clear(&mut self) {
-        self.unlisted = self.touches();
         self.touched.clear();
     }
 }

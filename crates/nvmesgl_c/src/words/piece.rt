@@ -31,18 +31,11 @@ pub enum NoPieces {
     Memory,
 }
 
-/// Whether the kind of a piece is neither.
-fn is_no_piece(piece: &CPiece) -> bool
-    ensures { result ≡ requests.is_no_piece piece.now }
-{
-    piece.kind > 1
-}
-
 /// Whether the kind of some piece is neither.
 fn has_no_piece(pieces: &[CPiece]) -> bool
     ensures { result ≡ list_any requests.is_no_piece pieces.now }
 {
-    pieces.iter().any(|piece| is_no_piece(piece))
+    pieces.iter().any(|piece| piece.kind > 1)
 }
 
 /// The piece that C means.

@@ -50,12 +50,7 @@ fn share_of(region: &CRegion<'_>, addr: u64, most: usize) -> Share
 {
     let len = region.bytes.len();
     if addr < region.addr {
-        let gap = region.addr - addr;
-        let count = if gap < most as u64 {
-            gap as usize
-        } else {
-            most
-        };
+        let count = (region.addr - addr).min(most as u64) as usize;
         return Share::Clear { count };
     }
     let offset = addr - region.addr;

@@ -1,6 +1,6 @@
 use Rattle.nvmesgl_c.proofs.Marks.{same_mark}
 use Rattle.nvmesgl_c.proofs.Told.{fetch_ok, fetch_err}
-use Rattle.nvmesgl_c.proofs.controller.regions.fetch_over.Goals as goal
+use Rattle.nvmesgl_c.proofs.controller.regions.fetch.Goals as goal
 
 pub returns-in-Ok-clause-fetches : goal.returns-in-Ok-clause-fetches
 returns-in-Ok-clause-fetches c =

@@ -1,5 +1,5 @@
 use Rattle.nvmesgl_c.proofs.Told.{complete_ok, complete_err}
-use Rattle.nvmesgl_c.proofs.controller.over.complete_over.Goals as goal
+use Rattle.nvmesgl_c.proofs.controller.over.complete.Goals as goal
 
 pub returns-in-Ok-clause-completes : goal.returns-in-Ok-clause-completes
 returns-in-Ok-clause-completes c =

@@ -1,6 +1,6 @@
 use Rattle.nvmesgl_c.proofs.Marks.{same_mark}
 use Rattle.nvmesgl_c.proofs.Told.{walk_ok, walk_err}
-use Rattle.nvmesgl_c.proofs.controller.regions.walk_over.Goals as goal
+use Rattle.nvmesgl_c.proofs.controller.regions.walk.Goals as goal
 
 pub returns-in-Ok-clause-walks : goal.returns-in-Ok-clause-walks
 returns-in-Ok-clause-walks c =

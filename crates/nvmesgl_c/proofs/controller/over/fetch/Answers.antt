@@ -1,5 +1,5 @@
 use Rattle.nvmesgl_c.proofs.Told.{fetch_ok, fetch_err}
-use Rattle.nvmesgl_c.proofs.controller.over.fetch_over.Goals as goal
+use Rattle.nvmesgl_c.proofs.controller.over.fetch.Goals as goal
 
 pub returns-in-Ok-clause-fetches : goal.returns-in-Ok-clause-fetches
 returns-in-Ok-clause-fetches c =

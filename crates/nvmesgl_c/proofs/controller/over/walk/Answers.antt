@@ -1,5 +1,5 @@
 use Rattle.nvmesgl_c.proofs.Told.{walk_ok, walk_err}
-use Rattle.nvmesgl_c.proofs.controller.over.walk_over.Goals as goal
+use Rattle.nvmesgl_c.proofs.controller.over.walk.Goals as goal
 
 pub returns-in-Ok-clause-walks : goal.returns-in-Ok-clause-walks
 returns-in-Ok-clause-walks c =

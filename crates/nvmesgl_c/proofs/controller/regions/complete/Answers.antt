@@ -1,6 +1,6 @@
 use Rattle.nvmesgl_c.proofs.Marks.{same_mark}
 use Rattle.nvmesgl_c.proofs.Told.{complete_ok, complete_err}
-use Rattle.nvmesgl_c.proofs.controller.regions.complete_over.Goals as goal
+use Rattle.nvmesgl_c.proofs.controller.regions.complete.Goals as goal
 
 pub returns-in-Ok-clause-completes : goal.returns-in-Ok-clause-completes
 returns-in-Ok-clause-completes c =

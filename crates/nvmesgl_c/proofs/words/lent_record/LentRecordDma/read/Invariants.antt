@@ -1,5 +1,0 @@
-use Rattle.std.proofs.Common.{◌≡◌, ℕ, ◌<◌, ◌+◌, Some, slice_index, slice_get}
-use Rattle.nvmesgl_c.proofs.words.lent_record.LentRecordDma.read.Given as goal
-
-abbrev pub invariant-loop-k : goal.invariant-loop-k
-invariant-loop-k l = (k : ℕ) → k < l.k → slice_get l.self.bytes.now (l.addr + k) ≡ Some (slice_index l.into k)
