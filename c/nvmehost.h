@@ -60,7 +60,10 @@ typedef struct nvmehost_ended {
     uint16_t cid;   /* of both */
     uint8_t sct;    /* status code type, of both */
     uint8_t sc;     /* status code */
-    uint32_t reserved[4]; /* 0 */
+    uint8_t retry_delay; /* of a command that was collected: what its completion hints at, as in nvmesgl_answer; else 0 */
+    bool more;
+    bool do_not_retry;
+    uint8_t reserved[13]; /* 0 */
 } nvmehost_ended;
 
 enum nvmehost_queue_state {
@@ -185,7 +188,7 @@ uint32_t nvmehost_build(nvmehost *, uint16_t q, uint16_t cid, nvmesgl_answer *) 
 uint32_t nvmehost_submit(nvmehost *, uint16_t q, uint16_t cid, nvmesgl_answer *) NVMESGL_CALL(1, 4);
 /* Cancels a draft: its pages and its identifier are free. Refused: NO_VALUE. */
 uint32_t nvmehost_cancel(nvmehost *, uint16_t q, uint16_t cid, nvmesgl_answer *) NVMESGL_CALL(1, 4);
-/* Collects a command that has ended, by its ticket: answer.sct and answer.sc, and its answer.tag. Its pages are out of the pool. Refused: NO_VALUE, NOT_YET, MEMORY. */
+/* Collects a command that has ended, by its ticket: answer.sct and answer.sc, what its completion hints at, and its answer.tag. Its pages are out of the pool. Refused: NO_VALUE, NOT_YET, MEMORY. */
 uint32_t nvmehost_collect(nvmehost *, uint16_t q, uint16_t cid, nvmesgl_answer *) NVMESGL_CALL(1, 4);
 /* Gathers the bytes of a finished Read into the front of a buffer: answer.bytes; none of a Write or a Compare.
  * Refused: NO_VALUE, MEMORY, TOO_SHORT (the buffer stays as it was). */

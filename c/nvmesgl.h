@@ -225,7 +225,10 @@ typedef struct nvmesgl_answer {
     uint8_t sct;            /* status code type: of a walk's fault, a reap, a collect and a whole command */
     uint8_t sc;             /* status code */
     uint32_t count;         /* of a serve: commands that it completed */
-    uint32_t reserved[3];   /* 0 */
+    uint8_t retry_delay;    /* Command Retry Delay, 0 to 3: of a collect and a whole command, as are the next two. All 0 where no completion ended the command */
+    bool more;              /* More: the Error Information log has more on it */
+    bool do_not_retry;      /* Do Not Retry: it is expected to fail again */
+    uint8_t reserved[9];    /* 0 */
     uint64_t tag;           /* of nvmehost_reap and nvmehost_collect: that of the command of an I/O queue that has ended */
 } nvmesgl_answer;
 
@@ -288,7 +291,8 @@ uint32_t nvmesgl_build(nvmesgl *, uint16_t q, uint16_t cid, nvmesgl_answer *) NV
 uint32_t nvmesgl_submit(nvmesgl *, uint16_t q, uint16_t cid, nvmesgl_answer *) NVMESGL_CALL(1, 4);
 /* Cancels a draft: its pages and its identifier are free. Refused: NO_VALUE. */
 uint32_t nvmesgl_cancel(nvmesgl *, uint16_t q, uint16_t cid, nvmesgl_answer *) NVMESGL_CALL(1, 4);
-/* Collects a command that has ended, by its ticket: answer.sct and answer.sc. Refused: NO_VALUE, NOT_YET, MEMORY. */
+/* Collects a command that has ended, by its ticket: answer.sct and answer.sc, and what its completion hints at (answer.retry_delay, answer.more,
+ * answer.do_not_retry). Refused: NO_VALUE, NOT_YET, MEMORY. */
 uint32_t nvmesgl_collect(nvmesgl *, uint16_t q, uint16_t cid, nvmesgl_answer *) NVMESGL_CALL(1, 4);
 /* Gathers the bytes of a finished Read into the front of a buffer: answer.bytes; none of a Write or a Compare. What a Read that failed did not bring is zeros.
  * Refused: NO_VALUE, MEMORY, TOO_SHORT (the buffer stays as it was). */

@@ -199,6 +199,37 @@ static void refuses_bad_use(const nvmehost_options *options) {
     if (nvmehost_open(&host, &wrong, &answer) != NVMESGL_NO_PAGES || answer.need != 130 || answer.free != 8) fail("too few pages for the rings", 0);
 }
 
+/* What a completion hints at is told by the collection of its command, and by a poll. */
+static void tells_hints(const nvmehost_options *options) {
+    nvmehost own = NVMEHOST_CLOSED;
+    uint8_t block[512];
+    const nvmesgl_iovec buffer = {block, sizeof block};
+    if (nvmehost_open(&own, options, &answer) != NVMESGL_DONE) fail("open", 0);
+    for (unsigned turn = 0; turn < 2; turn++) {
+        nvmehost_queue queue;
+        nvmehost_ended ended = {0};
+        size_t count;
+        /* 0:02 in the first pass of the ring: Do Not Retry, More, and a Command Retry Delay of 2. */
+        uint8_t bytes[16] = {[10] = 1, [14] = 0x05, [15] = 0xE0};
+        if (nvmehost_submit_iov(&own, 1, NVMESGL_READ, 0, &buffer, 1, 0, &answer) != NVMESGL_DONE) fail("a Read", 0);
+        uint16_t cid = answer.cid;
+        if (nvmehost_look(&own, 1, &queue) != NVMESGL_DONE) fail("a queue", 0);
+        bytes[8] = (uint8_t)queue.submission_tail;
+        bytes[12] = (uint8_t)cid;
+        if (nvmehost_write(&own, (uint64_t)queue.completion_page * PAGE + 16u * queue.completion_head, bytes, 16) != NVMESGL_DONE) fail("a completion", 0);
+        if (turn == 0) {
+            if (nvmehost_reap(&own, 1, &bell, &answer) != NVMESGL_DONE || answer.sc != 2 || answer.more) fail("a reap", 0);
+            if (nvmehost_collect(&own, 1, cid, &answer) != NVMESGL_DONE || answer.sc != 2) fail("a collection", 0);
+            if (answer.retry_delay != 2 || !answer.more || !answer.do_not_retry) fail("the hints of a collection", 0);
+        } else {
+            if (nvmehost_poll(&own, 1, &ended, 1, &count, &bell, &answer) != NVMESGL_DONE || count != 1 || ended.cid != cid || ended.sc != 2) fail("a poll", 0);
+            if (ended.retry_delay != 2 || !ended.more || !ended.do_not_retry) fail("the hints of a poll", 0);
+        }
+        if (nvmehost_release(&own, 1, cid, &answer) != NVMESGL_DONE || answer.more) fail("a release", 0);
+    }
+    nvmehost_close(&own);
+}
+
 int main(int argc, char **argv) {
     nvmehost_options options = NVMEHOST_OPTIONS;
     if (argc != 3) return 2;
@@ -207,6 +238,7 @@ int main(int argc, char **argv) {
     options.queues = QUEUES - 1;
     options.entries = ENTRIES;
     refuses_bad_use(&options);
+    tells_hints(&options);
     uint32_t code = nvmehost_open(&host, &options, &answer);
     if (code != NVMESGL_DONE) fail("open", code);
     if (nvmehost_open(&host, &options, &answer) != NVMESGL_OPEN_HANDLE) fail("a second opening", 0);

@@ -16,7 +16,8 @@ int main(void) {
     STRUCT(nvmesgl_answer), FIELD(nvmesgl_answer, state), FIELD(nvmesgl_answer, dw0), FIELD(nvmesgl_answer, need), FIELD(nvmesgl_answer, free);
     FIELD(nvmesgl_answer, data_pages), FIELD(nvmesgl_answer, chain_pages), FIELD(nvmesgl_answer, bytes), FIELD(nvmesgl_answer, touched);
     FIELD(nvmesgl_answer, touched_count), FIELD(nvmesgl_answer, cid), FIELD(nvmesgl_answer, sct), FIELD(nvmesgl_answer, sc);
-    FIELD(nvmesgl_answer, count), FIELD(nvmesgl_answer, reserved), FIELD(nvmesgl_answer, tag), END;
+    FIELD(nvmesgl_answer, count), FIELD(nvmesgl_answer, retry_delay), FIELD(nvmesgl_answer, more), FIELD(nvmesgl_answer, do_not_retry);
+    FIELD(nvmesgl_answer, reserved), FIELD(nvmesgl_answer, tag), END;
     STRUCT(nvmesgl_pages), FIELD(nvmesgl_pages, pages), FIELD(nvmesgl_pages, free_pages), FIELD(nvmesgl_pages, queue_pages);
     FIELD(nvmesgl_pages, chain_pages), FIELD(nvmesgl_pages, data_pages), FIELD(nvmesgl_pages, trusted), FIELD(nvmesgl_pages, reserved), END;
     STRUCT(nvmesgl_page_owner), FIELD(nvmesgl_page_owner, kind), FIELD(nvmesgl_page_owner, q), FIELD(nvmesgl_page_owner, cid), FIELD(nvmesgl_page_owner, reserved), END;
@@ -30,7 +31,8 @@ int main(void) {
     FIELD(nvmehost_options, entries), FIELD(nvmehost_options, segment), FIELD(nvmehost_options, reserved), END;
     STRUCT(nvmehost_doorbell), FIELD(nvmehost_doorbell, offset), FIELD(nvmehost_doorbell, value), FIELD(nvmehost_doorbell, rings), FIELD(nvmehost_doorbell, reserved), END;
     STRUCT(nvmehost_ended), FIELD(nvmehost_ended, tag), FIELD(nvmehost_ended, state), FIELD(nvmehost_ended, code), FIELD(nvmehost_ended, dw0), FIELD(nvmehost_ended, cid);
-    FIELD(nvmehost_ended, sct), FIELD(nvmehost_ended, sc), FIELD(nvmehost_ended, reserved), END;
+    FIELD(nvmehost_ended, sct), FIELD(nvmehost_ended, sc), FIELD(nvmehost_ended, retry_delay), FIELD(nvmehost_ended, more);
+    FIELD(nvmehost_ended, do_not_retry), FIELD(nvmehost_ended, reserved), END;
     STRUCT(nvmehost_queue), FIELD(nvmehost_queue, state), FIELD(nvmehost_queue, submission_tail), FIELD(nvmehost_queue, submission_head);
     FIELD(nvmehost_queue, completion_head), FIELD(nvmehost_queue, phase), FIELD(nvmehost_queue, submission_page), FIELD(nvmehost_queue, completion_page);
     FIELD(nvmehost_queue, submission_pages), FIELD(nvmehost_queue, completion_pages), FIELD(nvmehost_queue, reserved), END;

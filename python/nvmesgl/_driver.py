@@ -8,7 +8,7 @@ from typing import Any, Dict, Iterable, Tuple
 
 from ._library import CPiece, PageOwner, fits, lent, lent_to_write
 from ._opened import Opened
-from .words import Code, Kind, Owner, OwnerKind, Piece, Refused, Reserved, Status
+from .words import Code, Collected, Kind, Owner, OwnerKind, Piece, Refused, Reserved
 
 
 def lent_pieces(pieces: Iterable[Piece]) -> Tuple["ctypes.Array[CPiece]", int]:
@@ -48,10 +48,10 @@ class Driver(Opened):
         """Cancels a draft: its pages and its identifier are free."""
         self._call("cancel", q, cid)
 
-    def collect(self, q: int, cid: int) -> Status:
-        """Collects a command that has ended. Its pages are out of the pool."""
+    def collect(self, q: int, cid: int) -> Collected:
+        """Collects a command that has ended: its status, with its `hints`, and of a host its `tag`. Its pages are out of the pool."""
         self._call("collect", q, cid)
-        return self._status()
+        return self._collected()
 
     def gather(self, q: int, cid: int) -> bytes:
         """The bytes of a finished Read; none of a Write or a Compare."""

@@ -6,7 +6,7 @@ import ctypes
 import functools
 import os
 import pathlib
-from ctypes import POINTER, Structure, c_char_p, c_size_t, c_uint8, c_uint16, c_uint32, c_uint64, c_void_p
+from ctypes import POINTER, Structure, c_bool, c_char_p, c_size_t, c_uint8, c_uint16, c_uint32, c_uint64, c_void_p
 from typing import Any, Dict, Iterable, List, Tuple
 
 
@@ -112,6 +112,10 @@ OPTION_WORDS = [(name, c_uint32) for name in ("size", "pages", "queues", "entrie
 PAGE_COUNTS = [(name, c_uint32) for name in ("pages", "free_pages", "queue_pages", "chain_pages", "data_pages")]
 
 
+# What a completion hints at.
+HINTS = [("retry_delay", c_uint8), ("more", c_bool), ("do_not_retry", c_bool)]
+
+
 class Handle(Structure):
     _fields_ = [("at", c_void_p), ("mark", c_uint32)]
 
@@ -135,7 +139,8 @@ class Answer(Structure):
         ("sct", c_uint8),
         ("sc", c_uint8),
         ("count", c_uint32),
-        ("reserved", c_uint32 * 3),
+        *HINTS,
+        ("reserved", c_uint8 * 9),
         ("tag", c_uint64),
     ]
 

@@ -7,7 +7,7 @@ from types import TracebackType
 from typing import Any, Dict, List, Optional, Type, TypeVar
 
 from ._library import Answer, Handle
-from .words import Code, Refused, State, Status
+from .words import Code, Collected, Hints, Refused, State, Status
 
 Self = TypeVar("Self", bound="Opened")
 
@@ -57,3 +57,10 @@ class Opened:
 
     def _status(self) -> Status:
         return Status(self._answer.sct, self._answer.sc)
+
+    def _collected(self) -> Collected:
+        told = self._answer
+        collected = Collected(told.sct, told.sc)
+        collected.hints = Hints(told.retry_delay, told.more, told.do_not_retry)
+        collected.tag = int(told.tag)
+        return collected

@@ -27,8 +27,8 @@ from ctypes import POINTER, Structure, byref, c_bool, c_size_t, c_uint8, c_uint1
 from typing import Any, Dict, Iterable, List, NamedTuple, Optional
 
 from ._driver import Driver, lent_pieces
-from ._library import COMMAND_CALLS, OPTION_WORDS, PAGE_COUNTS, RESERVED, U16, U32, U64, Answer, CPiece, Handle, IoVec, PageOwner, all_lent, declare, fits, lent
-from .words import Code, Kind, Piece, Refused, Reserved, State, Status
+from ._library import COMMAND_CALLS, HINTS, OPTION_WORDS, PAGE_COUNTS, RESERVED, U16, U32, U64, Answer, CPiece, Handle, IoVec, PageOwner, all_lent, declare, fits, lent
+from .words import Code, Collected, Hints, Kind, Piece, Refused, Reserved, State, Status
 
 __all__ = ["Collected", "Counts", "Doorbell", "Ended", "Host", "PAGE_BYTES", "Place", "Polled", "Queue", "QueueState", "Reaped", "Right", "Rings", "Run"]
 
@@ -76,15 +76,9 @@ class Reaped(NamedTuple):
     tag: int
 
 
-class Collected(Status):
-    """How a command ended that was collected; `tag` is the command's, and 0 where it has none."""
-
-    tag: int = 0
-
-
 class Ended(NamedTuple):
     """A completion that a poll took. The identifier and the status are there where a command has ended; dw0 is that of queue 0. `tag` is that of a command of an I/O
-    queue, and else 0; `code` is that of its collection: DONE, or why it has ended and is not collected."""
+    queue, and else 0; `code` is that of its collection: DONE, or why it has ended and is not collected; `hints` are told where it is collected."""
 
     state: State
     cid: Optional[int]
@@ -92,6 +86,7 @@ class Ended(NamedTuple):
     dw0: Optional[int]
     tag: int
     code: Code
+    hints: Hints = Hints()
 
 
 class Polled(NamedTuple):
@@ -161,7 +156,17 @@ class CDoorbell(Structure):
 
 
 class CEnded(Structure):
-    _fields_ = [("tag", c_uint64), ("state", c_uint32), ("code", c_uint32), ("dw0", c_uint32), ("cid", c_uint16), ("sct", c_uint8), ("sc", c_uint8), RESERVED]
+    _fields_ = [
+        ("tag", c_uint64),
+        ("state", c_uint32),
+        ("code", c_uint32),
+        ("dw0", c_uint32),
+        ("cid", c_uint16),
+        ("sct", c_uint8),
+        ("sc", c_uint8),
+        *HINTS,
+        ("reserved", c_uint8 * 13),
+    ]
 
 
 class CQueue(Structure):
@@ -223,7 +228,8 @@ def _ended(entry: CEnded) -> Ended:
     if state not in (State.REAP_DONE, State.REAP_ADMIN_DONE):
         return Ended(state, None, None, None, 0, code)
     status = Status(entry.sct, entry.sc)
-    return Ended(state, entry.cid, status, entry.dw0 if state == State.REAP_ADMIN_DONE else None, entry.tag, code)
+    hints = Hints(entry.retry_delay, entry.more, entry.do_not_retry)
+    return Ended(state, entry.cid, status, entry.dw0 if state == State.REAP_ADMIN_DONE else None, entry.tag, code, hints)
 
 
 def _lend(memory: Any) -> "ctypes.Array[c_uint8]":
@@ -282,13 +288,6 @@ class Host(Driver):
         pool until it is submitted. `reap`, `collect` and `poll` tell the tag, of 64 bits, when the command has ended."""
         told = self._call("reserve_tagged", q, kind, slba, blocks, *lent_pieces(pieces), tag)
         return Reserved(told.cid, told.data_pages, told.chain_pages)
-
-    def collect(self, q: int, cid: int) -> Collected:
-        """Collects a command that has ended: its status, with its `tag`. Its pages are out of the pool."""
-        told = self._call("collect", q, cid)
-        collected = Collected(told.sct, told.sc)
-        collected.tag = int(told.tag)
-        return collected
 
     # A command of several buffers
 

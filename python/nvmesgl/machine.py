@@ -8,7 +8,7 @@ from typing import Any, Dict, Iterable, List, NamedTuple, Optional
 
 from ._driver import Driver
 from ._library import COMMAND_CALLS, OPTION_WORDS, PAGE_COUNTS, RESERVED, U16, U32, U64, Answer, Handle, IoVec, PageOwner, all_lent, declare, fits, lent, lent_to_write
-from .words import State, Status, Step, Walk
+from .words import Collected, State, Status, Step, Walk
 
 __all__ = ["Completion", "Counts", "Machine"]
 
@@ -121,37 +121,37 @@ class Machine(Driver):
 
     # Whole commands
 
-    def read(self, q: int, slba: int, buffer: Any) -> Status:
+    def read(self, q: int, slba: int, buffer: Any) -> Collected:
         """Carries a Read of whole blocks from `slba` on through all its steps, into a writable buffer, and returns its status."""
         self._call("read", q, slba, *lent_to_write(buffer))
-        return self._status()
+        return self._collected()
 
-    def write(self, q: int, slba: int, content: Any) -> Status:
+    def write(self, q: int, slba: int, content: Any) -> Collected:
         """Carries a Write of whole blocks from `slba` on through all its steps, and returns its status."""
         self._call("write", q, slba, *lent(content))
-        return self._status()
+        return self._collected()
 
-    def compare(self, q: int, slba: int, content: Any) -> Status:
+    def compare(self, q: int, slba: int, content: Any) -> Collected:
         """Carries a Compare of whole blocks from `slba` on through all its steps, and returns its status."""
         self._call("compare", q, slba, *lent(content))
-        return self._status()
+        return self._collected()
 
-    def readv(self, q: int, slba: int, buffers: Iterable[Any]) -> Status:
+    def readv(self, q: int, slba: int, buffers: Iterable[Any]) -> Collected:
         """As `read`, into several writable buffers, one after the other. Only all of them together are whole blocks."""
         return self._carry("readv", q, slba, buffers, True)
 
-    def writev(self, q: int, slba: int, contents: Iterable[Any]) -> Status:
+    def writev(self, q: int, slba: int, contents: Iterable[Any]) -> Collected:
         """As `write`, of the bytes of several buffers, one after the other. Only all of them together are whole blocks."""
         return self._carry("writev", q, slba, contents, False)
 
-    def comparev(self, q: int, slba: int, contents: Iterable[Any]) -> Status:
+    def comparev(self, q: int, slba: int, contents: Iterable[Any]) -> Collected:
         """As `compare`, with the bytes of several buffers, one after the other. Only all of them together are whole blocks."""
         return self._carry("comparev", q, slba, contents, False)
 
-    def _carry(self, call: str, q: int, slba: int, buffers: Iterable[Any], writable: bool) -> Status:
+    def _carry(self, call: str, q: int, slba: int, buffers: Iterable[Any], writable: bool) -> Collected:
         array, count, _held = all_lent(buffers, writable)
         self._call(call, q, slba, array, count)
-        return self._status()
+        return self._collected()
 
     # Looks
 

@@ -7,7 +7,7 @@ from typing import Any, List, NamedTuple, Sequence, Tuple
 
 from ._library import library
 
-__all__ = ["Code", "Kind", "Owner", "OwnerKind", "Piece", "Refused", "Reserved", "State", "Status", "Step", "Walk"]
+__all__ = ["Code", "Collected", "Hints", "Kind", "Owner", "OwnerKind", "Piece", "Refused", "Reserved", "State", "Status", "Step", "Walk"]
 
 
 class Code(enum.IntEnum):
@@ -120,6 +120,22 @@ class Status(NamedTuple):
 
     def __str__(self) -> str:
         return f"{self.sct}:{self.sc:02X} {self.name}"
+
+
+class Hints(NamedTuple):
+    """What a command's completion hinted at: which delay is to pass before the command is sent again (0: none), whether the Error Information log has more on it,
+    and whether it is expected to fail again. Nothing where no completion ended it."""
+
+    retry_delay: int = 0
+    more: bool = False
+    do_not_retry: bool = False
+
+
+class Collected(Status):
+    """How a command ended that was collected, with its hints; `tag` is that of a host's command, and 0 where it has none."""
+
+    hints: Hints = Hints()
+    tag: int = 0
 
 
 class Reserved(NamedTuple):

@@ -7,19 +7,20 @@ import struct
 
 import pytest
 
-from nvmesgl import Code, Kind, OwnerKind, Piece, State
+from nvmesgl import Code, Hints, Kind, OwnerKind, Piece, State
 from nvmesgl.host import PAGE_BYTES, Doorbell, Host, Place, QueueState, Right, Rings, Run
 from refusals import refused
 
 
 class Device:
-    """A device that answers each entry with success, and a Read with bytes of one value at its first page."""
+    """A device that answers each entry with success, or with what `end` says above the phase, and a Read with bytes of one value at its first page."""
 
     def __init__(self, host):
         self.host = host
         self.rings = {0: host.rings(0)}
         self.heads = {0: 0}
         self.tails = {0: (0, 1)}
+        self.end = 0
 
     def ring(self, bell):
         """Hears a doorbell: takes each new entry, and posts its completion."""
@@ -41,7 +42,7 @@ class Device:
         elif q != 0 and opcode == 2:
             self.host.write(base, bytes([0x5A]) * 512)
         slot, phase = self.tails[q]
-        answer = struct.pack("<IIHHHH", 0, 0, self.heads[q], q, cid, phase)
+        answer = struct.pack("<IIHHHH", 0, 0, self.heads[q], q, cid, self.end | phase)
         self.host.write(self.rings[q].completion + 16 * slot, answer)
         self.tails[q] = (slot + 1, phase) if slot + 1 < self.host.entries else (0, phase ^ 1)
 
@@ -105,6 +106,30 @@ def test_calls():
         with pytest.raises(ctypes.ArgumentError):
             host.ring(70000)
     refused(Code.CLOSED_HANDLE, host.ring, 1)
+
+
+def test_hints():
+    with Host(pages=32, entries=8) as host:
+        device = Device(host)
+        device.rings[1], device.heads[1], device.tails[1] = host.rings(1), 0, (0, 1)
+        # 0:02, a Command Retry Delay of 2, More and Do Not Retry
+        device.end = 0xE004
+        cid = host.send(1, Kind.READ, 0, [bytes(512)]).cid
+        device.ring(host.ring(1))
+        assert host.reap(1).status == (0, 2)
+        collected = host.collect(1, cid)
+        assert collected == (0, 2) and collected.hints == Hints(2, True, True)
+        host.release(1, cid)
+        cid = host.send(1, Kind.READ, 0, [bytes(512)]).cid
+        device.ring(host.ring(1))
+        [ended] = host.poll(1).ended
+        assert ended.status == (0, 2) and ended.hints == Hints(2, True, True)
+        host.release(1, cid)
+        cid = host.send(1, Kind.READ, 0, [bytes(512)]).cid
+        host.reset()
+        collected = host.collect(1, cid)
+        assert collected == (0, 8) and collected.hints == Hints()
+        host.release(1, cid)
 
 
 def test_commands_of_several_buffers():

@@ -1,6 +1,7 @@
 -- A completion is posted.
 use Rattle.std.specs.{Option.option_map_or, Prelude.{◌≡◌, ℕ, ◌++◌, ◌∷◌, [], Option, Some, None, List, slice_get, is_none, if◌then◌else◌}}
 use Rattle.entry_codec.specs.{Completion.{completion_bytes, IsComEntry}, declared.{completion.ComEntry.ComEntry, status.Status.Status}}
+use Rattle.entry_codec.specs.declared.hints.TheConstants.Hints.{NONE}
 use Rattle.page_memory.specs.Memory.{Memory, written}
 use Rattle.queue_pair.specs.{Memory.{completion_page, completion_place, completion_slot}, Rings.{ControllerSide, completion_posted}, Slots.is_full}
 use Rattle.controller_core.specs.{Contents.change, Doorbells.with_side, declared.{queue.ControllerQueue.ControllerQueue, refusal.Refusal.Refusal}}
@@ -19,7 +20,7 @@ post_refusal_at queues m q = option_map_or (λ queue. post_refusal m queue.contr
 
 -- the completion of a command, with the submission head and the phase of this moment
 abbrev pub completion_by : ℕ → ℕ → Status → ℕ → ControllerSide → ComEntry
-completion_by q cid st dw0 controller = record { dw0 = dw0; sqhd = controller.ring.head; sqid = q; cid = cid; phase = controller.ring.phase; status = st }
+completion_by q cid st dw0 controller = record { dw0 = dw0; sqhd = controller.ring.head; sqid = q; cid = cid; phase = controller.ring.phase; status = st; hints = NONE }
 
 -- the memory with a completion in the slot at the tail, the page of that slot, and the queue behind it
 abbrev pub memory_posted : Memory → ControllerSide → ComEntry → Memory

@@ -8,12 +8,12 @@ ghost use Rattle.controller_core.specs.Posting.{post_refusal_at, post_refusal, c
 
 use crate::queue::ControllerQueue;
 use crate::refusal::Refusal;
-use entry_codec::{ComEntry, Status};
+use entry_codec::{ComEntry, Hints, Status};
 use page_memory::Dma;
 use queue_pair::{DevicePair, PostFault};
 use std::alloc::Allocator;
 
-/// Posts the completion of a command of queue `q`, with the submission head of this moment.
+/// Posts the completion of a command of queue `q`, with the submission head of this moment. It hints at nothing.
 ///
 /// # Errors
 ///
@@ -44,6 +44,7 @@ pub(crate) fn post_completion<D: Dma>(
         cid,
         phase: false,
         status,
+        hints: Hints::NONE,
     };
     match pair.post(dma, completion) {
         Ok(()) => Ok(()),

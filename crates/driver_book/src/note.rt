@@ -122,7 +122,10 @@ pub(crate) fn collected<A: Allocator>(
     ensures { result ≡ noted (collect_reply answer.now) }
 {
     match answer {
-        Ok(finished) => Some(Reply::Collected(finished.status())),
+        Ok(finished) => Some(Reply::Collected {
+            status: finished.status(),
+            hints: finished.hints(),
+        }),
         Err(r) => refused(r.why),
     }
 }

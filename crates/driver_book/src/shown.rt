@@ -163,7 +163,10 @@ fn shown_answer(answer: &Reply<NoBytes>) -> Reply<NoBytes>
             touched: touched.copied(),
         },
         Reply::Reaps(what) => Reply::Reaps(*what),
-        Reply::Collected(status) => Reply::Collected(*status),
+        Reply::Collected { status, hints } => Reply::Collected {
+            status: *status,
+            hints: *hints,
+        },
         Reply::Gathered(bytes) => Reply::Gathered(*bytes),
         Reply::Sent { cid } => Reply::Sent { cid: *cid },
         Reply::NoValue => Reply::NoValue,

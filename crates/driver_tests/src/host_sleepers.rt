@@ -1,7 +1,7 @@
 //! A thread sleeps over a host under a lock, and a call wakes it: each call by whose name others are told.
 
 use crate::shared_hosts::reserved;
-use entry_codec::{ComEntry, Status};
+use entry_codec::{ComEntry, Hints, Status};
 use host_bench::{Call, Config, HostBench, Kind, Reply};
 use shared::{Change, Changes, Shared};
 use std::alloc::Global;
@@ -134,6 +134,7 @@ fn complete<R: Abort>(rt: &R, bench: &mut HostBench, q: u16) {
         cid: 0,
         phase: at.phase,
         status: Status::SUCCESS,
+        hints: Hints::NONE,
     };
     let slot = 4_096 * u64::from(ring.first.0) + 16 * u64::from(at.completion_head);
     assert!(rt; bench.write(slot, &entry.write()).is_ok());

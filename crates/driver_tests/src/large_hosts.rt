@@ -73,7 +73,7 @@ fn done<R: Abort>(rt: &R, bench: &mut HostBench, call: Call) {
             found: Reaped::Done { .. },
             ..
         } => {}
-        Reply::Collected(status) => see(rt, &status, &Status::SUCCESS),
+        Reply::Collected { status, .. } => see(rt, &status, &Status::SUCCESS),
         _ => panic!(rt; "it was not done"),
     }
 }

@@ -44,7 +44,14 @@ fn made_anew<R: Abort>(rt: &R, finished: Finished, status: Status) -> Finished {
         Err(_) => panic!(rt; "the request is no good"),
     }
     assert!(rt; parts.request.pieces.data_pages() <= parts.pages.len());
-    Finished::make(parts.q, parts.cid, parts.request, status, parts.pages)
+    Finished::make(
+        parts.q,
+        parts.cid,
+        parts.request,
+        status,
+        parts.hints,
+        parts.pages,
+    )
 }
 
 /// Makes the command that was collected last anew with another status, which it then has.

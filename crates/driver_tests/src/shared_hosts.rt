@@ -2,7 +2,7 @@
 
 ghost use Rattle.std.specs.Prelude.{◌<◌, IfOk};
 
-use entry_codec::{ComEntry, Status, SubEntry, io_opcode};
+use entry_codec::{ComEntry, Hints, Status, SubEntry, io_opcode};
 use host_bench::{
     Call, Config, Flags, HostBench, Kind, Piece, Pieces, Reaped, Refusal, Reply, Request,
     Unreadable,
@@ -93,6 +93,7 @@ impl Device {
             cid,
             phase: self.phase,
             status,
+            hints: Hints::NONE,
         };
         memory.write(COMPLETIONS + 16 * u64::from(self.tail), &completion.write())?;
         self.tail = self.tail.wrapping_add(1) % ENTRIES;
@@ -198,7 +199,10 @@ fn put_in<R: Abort>(
 /// Collects a command if it has ended, which must have ended well.
 fn collected<R: Abort>(rt: &R, bench: &mut HostBench, cid: u16) -> bool {
     match bench.call(Call::Collect { q: 1, cid }) {
-        Reply::Collected(Status::SUCCESS) => true,
+        Reply::Collected {
+            status: Status::SUCCESS,
+            ..
+        } => true,
         Reply::Refused(Refusal::NotYet) => false,
         _ => panic!(rt; "it did not end well"),
     }

@@ -30,7 +30,7 @@ made : (s : State) (r : Record) (f : FinishedContents) → finished_from s r ≡
 made s r f h = go (asked_by r.work) r.status h
   where
     go : (asked : Option Request) (status : Option Status)
-        → option_and_then (λ request. option_map (λ st. record { q = r.q; cid = r.cid; request = request; status = st; data_pages = pages_with_bytes s.memory r.data_pages; chain_pages = pages_with_bytes s.memory r.chain_pages }) status) asked ≡ Some f
+        → option_and_then (λ request. option_map (λ st. record { q = r.q; cid = r.cid; request = request; status = st; hints = r.hints; data_pages = pages_with_bytes s.memory r.data_pages; chain_pages = pages_with_bytes s.memory r.chain_pages }) status) asked ≡ Some f
         → (f.q ≡ r.q) × (f.cid ≡ r.cid)
     go None status h = cc
     go (Some request) None h = cc

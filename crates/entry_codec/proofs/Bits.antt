@@ -4,7 +4,8 @@ use Rattle.std.proofs.{Math.Seq.take-add, lemmas.Bool.cases_lt}
 use Rattle.std.proofs.lemmas.List.{take_at, drop_at, take-take, drop-take, drop-drop, drop_more, get_or-take, get_or-drop, get_or_past, length-take-le}
 use Rattle.std.proofs.lemmas.{List.Folds.drop_split, Nat.{le_bytes_2, le_bytes_4, le_bytes_8, or_shifted}}
 use Rattle.std.specs.{Int.{w16, w32, w64, to_le_bytes, from_le_bytes, from_bool}, List.slice_range}
-use Rattle.entry_codec.specs.Bytes.{IsBytes}
+use Rattle.entry_codec.specs.{Bytes.IsBytes, Completion.{completion_of, last_halfword}, Hints.{hint_bits, FitsHints}}
+use Rattle.entry_codec.specs.declared.hints.Hints.{Hints}
 use borrow.Rule.Slice.PartMut.{put_mid}
 
 -- Parts of lists, and the words in them.
@@ -85,21 +86,12 @@ one_at xs at within = ap (λ x. take 1 x) (drop_more xs at 0 within)
 
 -- The bits of the last halfword of a completion.
 
--- the three fields do not overlap, so joining them adds them
-pub fields_add : (sct sc phase : ℕ) → sct < 8 → sc < 256 → phase < 2 → bit_or (bit_or (sct * 512 % 65536) (sc * 2 % 65536)) phase ≡ sct * 512 + sc * 2 + phase
-fields_add sct sc phase type_fits code_fits bit_fits =
-    let type_stays : sct * 512 % 65536 ≡ sct * 512 = omega arith in
-    let code_stays : sc * 2 % 65536 ≡ sc * 2 = omega arith in
-    let joined : bit_or (sct * 512) (sc * 2) ≡ sct * 512 + sc * 2 = or_shifted sct 9 (sc * 2) (omega arith) in
-    let doubled : sct * 512 + sc * 2 ≡ (sct * 256 + sc) * 2 = omega arith in
-    rw (type_stays, code_stays, joined, doubled) (or_shifted (sct * 256 + sc) 1 phase bit_fits)
-
 -- a bit as a number, and a number as a bit
-pub bit_fits : (phase : Bool) → from_bool phase < 2
+pub bit_fits : (bit : Bool) → from_bool bit < 2
 bit_fits true = omega arith
 bit_fits false = omega arith
 
-pub bit_back : (phase : Bool) → nat_eq (from_bool phase) 1 ≡ phase
+pub bit_back : (bit : Bool) → nat_eq (from_bool bit) 1 ≡ bit
 bit_back true = refl
 bit_back false = refl
 
@@ -108,19 +100,32 @@ number_back zero h = refl
 number_back (suc zero) h = refl
 number_back (suc (suc n)) h = absurd (omega arith)
 
--- the fields of a halfword make its low 12 bits
-pub fields_of : (n : ℕ) → n % 4096 ≡ n / 512 % 8 * 512 + n / 2 % 256 * 2 + from_bool (nat_eq (n % 2) 1)
-fields_of n = rw (number_back (n % 2) (omega arith)) (omega arith)
+pub is_bit : (n : ℕ) (bit : Bool) → n ≡ from_bool bit → nat_eq n 1 ≡ bit
+is_bit n bit e = ap (λ x. nat_eq x 1) e ∙ bit_back bit
 
--- and low 12 bits have one phase, one status code and one status code type
-pub phase_of : (n sct sc : ℕ) (phase : Bool) → n % 4096 ≡ sct * 512 + sc * 2 + from_bool phase → nat_eq (n % 2) 1 ≡ phase
-phase_of n sct sc phase e =
-    let fits = bit_fits phase in
-    let low : n % 2 ≡ from_bool phase = omega arith in
-    ap (λ x. nat_eq x 1) low ∙ bit_back phase
+-- hints have four bits
+pub hints_fit : (hints : Hints) → FitsHints hints → hint_bits hints < 16
+hints_fit hints fits =
+    let more = bit_fits hints.more in
+    let do_not_retry = bit_fits hints.do_not_retry in
+    omega (arith, fits.retry_delay)
 
-pub code_of : (n sct sc : ℕ) (phase : Bool) → n % 4096 ≡ sct * 512 + sc * 2 + from_bool phase → sc < 256 → n / 2 % 256 ≡ sc
-code_of n sct sc phase e fits = let bit = bit_fits phase in omega arith
+-- the four fields do not overlap, so joining them adds them
+pub fields_add : (hints sct sc phase : ℕ) → hints < 16 → sct < 8 → sc < 256 → phase < 2
+    → bit_or (bit_or (hints * 4096 % 65536) (bit_or (sct * 512 % 65536) (sc * 2 % 65536))) phase ≡ hints * 4096 + (sct * 512 + sc * 2 + phase)
+fields_add hints sct sc phase hints_fit type_fits code_fits bit_fits =
+    let hints_stay : hints * 4096 % 65536 ≡ hints * 4096 = omega arith in
+    let type_stays : sct * 512 % 65536 ≡ sct * 512 = omega arith in
+    let code_stays : sc * 2 % 65536 ≡ sc * 2 = omega arith in
+    let status : bit_or (sct * 512) (sc * 2) ≡ sct * 512 + sc * 2 = or_shifted sct 9 (sc * 2) (omega arith) in
+    let joined : bit_or (hints * 4096) (sct * 512 + sc * 2) ≡ hints * 4096 + (sct * 512 + sc * 2) = or_shifted hints 12 (sct * 512 + sc * 2) (omega arith) in
+    let doubled : hints * 4096 + (sct * 512 + sc * 2) ≡ (hints * 2048 + sct * 256 + sc) * 2 = omega arith in
+    let last : bit_or ((hints * 2048 + sct * 256 + sc) * 2) phase ≡ (hints * 2048 + sct * 256 + sc) * 2 + phase = or_shifted (hints * 2048 + sct * 256 + sc) 1 phase bit_fits in
+    rw (hints_stay, type_stays, code_stays, status, joined, doubled, last) (omega arith)
 
-pub type_of : (n sct sc : ℕ) (phase : Bool) → n % 4096 ≡ sct * 512 + sc * 2 + from_bool phase → sc < 256 → n / 512 % 8 ≡ sct
-type_of n sct sc phase e fits = let bit = bit_fits phase in omega arith
+-- a halfword is made of the fields that are read of it
+pub fields_of : (bytes : List ℕ) → from_le_bytes w16 (slice_range bytes 14 16) < 2 ^ 16 → last_halfword (completion_of bytes) ≡ from_le_bytes w16 (slice_range bytes 14 16)
+unfolding completion_of
+fields_of bytes h =
+    let n = from_le_bytes w16 (slice_range bytes 14 16) in
+    rw (number_back (n % 2) (omega arith), number_back (n / 16384 % 2) (omega arith), number_back (n / 32768) (omega arith)) (omega arith)

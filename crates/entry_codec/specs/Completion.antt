@@ -1,15 +1,15 @@
 -- The 16 bytes of a completion queue entry (NVM Express Base Specification 2.0, "Common Completion Queue Entry", section
--- 3.3.3.2). Numbers are little-endian. Bytes 7:4 (DW1) and bits 15:12 of the last halfword (Do Not Retry, More, Command
--- Retry Delay) are ignored.
+-- 3.3.3.2). Numbers are little-endian. Bytes 7:4 (DW1) are ignored.
 use Rattle.std.specs.Int.{w16, w32, to_le_bytes, from_le_bytes}
-use Rattle.std.specs.Prelude.{◌≡◌, ◌<◌, ◌/◌, ◌%◌, ◌^◌, ◌==◌, ◌++◌, ℕ, List, take, replicate, slice_index, slice_range}
-use Rattle.entry_codec.specs.{Status.status_halfword, declared.completion.ComEntry.ComEntry}
+use Rattle.std.specs.Prelude.{◌≡◌, ◌<◌, ◌+◌, ◌*◌, ◌/◌, ◌%◌, ◌^◌, ◌==◌, ◌++◌, ℕ, List, drop, take, replicate, slice_range}
+use Rattle.entry_codec.specs.{Hints.{hint_bits, FitsHints}, Status.status_halfword, declared.completion.ComEntry.ComEntry}
 
--- the status code type fits its 3 bits
+-- the status code type fits its 3 bits, and the retry delay its 2
 pub record FitsCompletion (entry : ComEntry) : Type 0 where
   pub sct : entry.status.sct < 8
+  pub hints : FitsHints entry.hints
 
--- the numbers but the status code type are those of a value of the type `ComEntry`
+-- the numbers but the status code type and the retry delay are those of a value of the type `ComEntry`
 pub record IsComEntry (entry : ComEntry) : Type 0 where
   pub dw0 : entry.dw0 < 2 ^ 32
   pub sqhd : entry.sqhd < 2 ^ 16
@@ -17,7 +17,11 @@ pub record IsComEntry (entry : ComEntry) : Type 0 where
   pub cid : entry.cid < 2 ^ 16
   pub sc : entry.status.sc < 2 ^ 8
 
--- the bytes that are written for an entry: zero in what is reserved or ignored
+-- phase and status in bits 11:0, and the hints above
+abbrev pub last_halfword : ComEntry → ℕ
+last_halfword entry = hint_bits entry.hints * 4096 + status_halfword entry.status entry.phase
+
+-- the bytes that are written for an entry: zero in what is ignored
 unfoldable pub completion_bytes : ComEntry → List ℕ
 completion_bytes entry =
     to_le_bytes w32 entry.dw0
@@ -25,16 +29,17 @@ completion_bytes entry =
     ++ to_le_bytes w16 entry.sqhd
     ++ to_le_bytes w16 entry.sqid
     ++ to_le_bytes w16 entry.cid
-    ++ to_le_bytes w16 (status_halfword entry.status entry.phase)
+    ++ to_le_bytes w16 (last_halfword entry)
 
--- the bytes spell the entry: each field stands in its bytes, and what is reserved or ignored is free
+-- the bytes spell the entry: each field stands in its bytes, and what is ignored is free
 pub record IsCompletion (entry : ComEntry) (bytes : List ℕ) : Type 0 where
   pub typed : IsComEntry entry
+  pub fits : FitsCompletion entry
   pub dw0 : take 4 bytes ≡ to_le_bytes w32 entry.dw0
   pub sqhd : slice_range bytes 8 10 ≡ to_le_bytes w16 entry.sqhd
   pub sqid : slice_range bytes 10 12 ≡ to_le_bytes w16 entry.sqid
   pub cid : slice_range bytes 12 14 ≡ to_le_bytes w16 entry.cid
-  pub halfword : from_le_bytes w16 (slice_range bytes 14 16) % 4096 ≡ status_halfword entry.status entry.phase
+  pub halfword : slice_range bytes 14 16 ≡ to_le_bytes w16 (last_halfword entry)
 
 -- the entry that 16 bytes spell
 unfoldable pub completion_of : List ℕ → ComEntry
@@ -47,10 +52,10 @@ completion_of bytes =
       cid = from_le_bytes w16 (slice_range bytes 12 14);
       phase = halfword % 2 == 1;
       status = record { sct = halfword / 512 % 8; sc = halfword / 2 % 256 };
+      hints = record { retry_delay = halfword / 4096 % 4; more = halfword / 16384 % 2 == 1; do_not_retry = halfword / 32768 == 1 };
     }
 
--- the same bytes, but for what is reserved or ignored
+-- the same bytes, but for what is ignored
 pub record AgreeOutsideIgnored (a b : List ℕ) : Type 0 where
   pub dw0 : take 4 a ≡ take 4 b
-  pub middle : slice_range a 8 15 ≡ slice_range b 8 15
-  pub top : slice_index a 15 % 16 ≡ slice_index b 15 % 16
+  pub rest : drop 8 a ≡ drop 8 b

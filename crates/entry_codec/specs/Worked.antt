@@ -1,6 +1,7 @@
--- The entries of a first Read, of block 0 to the page at 4000h, and of its completion; and their bytes.
+-- The entries of a first Read, of block 0 to the page at 4000h, and of its completion, and a completion with hints; and their bytes.
 use Rattle.std.specs.Prelude.{ℕ, List, [], ◌∷◌, ◌++◌, replicate, true}
-use Rattle.entry_codec.specs.declared.{completion.ComEntry.ComEntry, io_opcode.TheConstants.READ, status.TheConstants.Status.SUCCESS}
+use Rattle.entry_codec.specs.declared.{completion.ComEntry.ComEntry, hints.TheConstants.Hints.NONE, io_opcode.TheConstants.READ}
+use Rattle.entry_codec.specs.declared.status.TheConstants.Status.{SUCCESS, COMPARE_FAILURE}
 use Rattle.entry_codec.specs.declared.submission.SubEntry.{SubEntry}
 
 -- a Data Block of 512 bytes at 4000h
@@ -40,6 +41,7 @@ first_completion = record {
   cid = 0;
   phase = true;
   status = SUCCESS;
+  hints = NONE;
 }
 
 abbrev pub first_completion_bytes : List ℕ
@@ -48,3 +50,22 @@ first_completion_bytes =
     ++ 0x00 ∷ 0x00 ∷ 0x00 ∷ 0x00 ∷ []
     ++ 0x01 ∷ 0x00 ∷ 0x01 ∷ 0x00 ∷ []
     ++ 0x00 ∷ 0x00 ∷ 0x01 ∷ 0x00 ∷ []
+
+-- a Compare that failed, with each hint
+abbrev pub hinting_completion : ComEntry
+hinting_completion = record {
+  dw0 = 0;
+  sqhd = 2;
+  sqid = 1;
+  cid = 3;
+  phase = true;
+  status = COMPARE_FAILURE;
+  hints = record { retry_delay = 2; more = true; do_not_retry = true };
+}
+
+abbrev pub hinting_completion_bytes : List ℕ
+hinting_completion_bytes =
+    0x00 ∷ 0x00 ∷ 0x00 ∷ 0x00 ∷ []
+    ++ 0x00 ∷ 0x00 ∷ 0x00 ∷ 0x00 ∷ []
+    ++ 0x02 ∷ 0x00 ∷ 0x01 ∷ 0x00 ∷ []
+    ++ 0x03 ∷ 0x00 ∷ 0x0B ∷ 0xE5 ∷ []

@@ -4,17 +4,17 @@
 ghost use Rattle.std.specs.Prelude.{◌≡◌, ◌↔◌, ◌<◌, List, ℕ, slice_range};
 ghost use Rattle.std.specs.Int.{w16, from_le_bytes};
 ghost use Rattle.entry_codec.specs.Bytes.{IsBytes};
-ghost use Rattle.entry_codec.specs.Status.{status_halfword as halfword_of};
-ghost use Rattle.entry_codec.specs.Completion.{completion_bytes, completion_of, FitsCompletion, IsComEntry, IsCompletion, AgreeOutsideIgnored};
-ghost use Rattle.entry_codec.specs.Worked.{first_completion, first_completion_bytes};
+ghost use Rattle.entry_codec.specs.Completion.{completion_bytes, completion_of, last_halfword as halfword_of, FitsCompletion, IsComEntry, IsCompletion, AgreeOutsideIgnored};
+ghost use Rattle.entry_codec.specs.Worked.{first_completion, first_completion_bytes, hinting_completion, hinting_completion_bytes};
 ghost use Rattle.entry_codec.specs.declared.completion.ComEntry.{ComEntry};
 
+use crate::hints::Hints;
 use crate::status::Status;
 
 /// A completion queue entry (NVM Express Base Specification 2.0, "Common Completion Queue Entry", section 3.3.3.2).
 ///
-/// Its 16 bytes are little-endian. Bytes 7:4, DW1, and the bits Command Retry Delay, More and Do Not Retry, 15:12 of the
-/// last halfword, are no part of the entry: they are written as zero and ignored on reading (own).
+/// Its 16 bytes are little-endian. Bytes 7:4, DW1, are no part of the entry: they are written as zero and ignored on
+/// reading (own).
 #[derive(Clone, Copy, Debug, PartialEq, Eq)]
 pub struct ComEntry {
     /// Command specific: bytes 3:0.
@@ -29,12 +29,14 @@ pub struct ComEntry {
     pub phase: bool,
     /// Status: bits 11:1 of the last halfword. Its type is below 8 in what is read, and a writer owes that.
     pub status: Status,
+    /// Hints: bits 15:12 of the last halfword. The retry delay is below 4 in what is read, and a writer owes that.
+    pub hints: Hints,
 }
 
 impl ComEntry {
-    /// The entry's bytes, with zeros in what is ignored. The caller sees to it that the status code type is below
-    /// 8: no value is cut off to fit its bits. The entry's numbers are those of a value of its type, which [`round_trip`]
-    /// asks for.
+    /// The entry's bytes, with zeros in what is ignored. The caller sees to it that the status code type is below 8 and
+    /// the retry delay below 4: no value is cut off to fit its bits. The entry's numbers are those of a value of its type,
+    /// which [`round_trip`] asks for.
     #[tactic(auto, unfolding(crate::specs::Completion::completion_bytes))]
     pub fn write(self) -> [u8; 16]
         requires fits { FitsCompletion self }
@@ -46,7 +48,7 @@ impl ComEntry {
         bytes[8..10].copy_from_slice(&self.sqhd.to_le_bytes());
         bytes[10..12].copy_from_slice(&self.sqid.to_le_bytes());
         bytes[12..14].copy_from_slice(&self.cid.to_le_bytes());
-        bytes[14..16].copy_from_slice(&self.status_halfword().to_le_bytes());
+        bytes[14..16].copy_from_slice(&self.last_halfword().to_le_bytes());
         bytes
     }
 
@@ -64,16 +66,18 @@ impl ComEntry {
             cid: cid(bytes),
             phase: phase(bytes),
             status: status(bytes),
+            hints: hints(bytes),
         }
     }
 
-    /// The last halfword: phase and status.
+    /// The last halfword: phase, status and hints.
     #[tactic(auto, using(crate::proofs::Bits::fields_add))]
-    fn status_halfword(self) -> u16
+    fn last_halfword(self) -> u16
         requires fits { FitsCompletion self }
-        ensures { result ≡ halfword_of self.status self.phase }
+        ensures { result ≡ halfword_of self }
     {
-        u16::from(self.status.sct) << 9 | u16::from(self.status.sc) << 1 | u16::from(self.phase)
+        let status = u16::from(self.status.sct) << 9 | u16::from(self.status.sc) << 1;
+        self.hints.bits() << 12 | status | u16::from(self.phase)
     }
 }
 
@@ -123,6 +127,18 @@ pub fn status(bytes: &[u8; 16]) -> Status
     }
 }
 
+/// The hints of an entry's bytes, whose retry delay is below 4.
+pub fn hints(bytes: &[u8; 16]) -> Hints
+    ensures { result ≡ (completion_of bytes.now).hints }
+{
+    let halfword = halfword(bytes);
+    Hints {
+        retry_delay: (halfword / 4096 % 4) as u8,
+        more: halfword / 16384 % 2 == 1,
+        do_not_retry: halfword / 32768 == 1,
+    }
+}
+
 fn halfword(bytes: &[u8; 16]) -> u16
     ensures { result ≡ from_le_bytes w16 (slice_range bytes.now 14 16) }
 {
@@ -142,15 +158,17 @@ pub fn one_spelling()
     ensures { (bytes : List ℕ) (entry : ComEntry) → IsBytes 16 bytes → (IsCompletion entry bytes ↔ (completion_of bytes ≡ entry)) }
 {}
 
-/// Two strings of bytes read alike exactly where they agree outside what is reserved or ignored.
+/// Two strings of bytes read alike exactly where they agree outside DW1.
 #[tactic(auto, using(crate::proofs::CompletionLemmas::read_alike))]
 pub fn read_alike()
     ensures { (a b : List ℕ) → IsBytes 16 a → IsBytes 16 b → ((completion_of a ≡ completion_of b) ↔ AgreeOutsideIgnored a b) }
 {}
 
-/// The entry of a first Read's completion, both ways.
+/// The entry of a first Read's completion, and one with each hint, both ways.
 #[tactic(auto, unfolding(crate::specs::Completion::completion_bytes, crate::specs::Completion::completion_of))]
 pub fn worked_entry()
     ensures written { completion_bytes first_completion ≡ first_completion_bytes }
     ensures read { completion_of first_completion_bytes ≡ first_completion }
+    ensures hinting_written { completion_bytes hinting_completion ≡ hinting_completion_bytes }
+    ensures hinting_read { completion_of hinting_completion_bytes ≡ hinting_completion }
 {}

@@ -8,11 +8,13 @@
 
 pub mod admin_opcode;
 pub mod completion;
+pub mod hints;
 pub mod io_opcode;
 pub mod status;
 pub mod status_names;
 pub mod submission;
 
 pub use completion::ComEntry;
+pub use hints::Hints;
 pub use status::Status;
 pub use submission::SubEntry;

@@ -2,7 +2,7 @@
 
 ghost use Rattle.std.specs.Prelude.{◌<◌, IfOk};
 
-use entry_codec::{ComEntry, Status, SubEntry, io_opcode};
+use entry_codec::{ComEntry, Hints, Status, SubEntry, io_opcode};
 use host_bench::{Doorbell, HostBench, Unreadable};
 use sgl_descriptor::Descriptor;
 
@@ -80,6 +80,7 @@ impl SmallDevice {
             cid,
             phase: self.phase,
             status,
+            hints: Hints::NONE,
         };
         memory.write(COMPLETIONS + 16 * u64::from(self.tail), &completion.write())?;
         self.tail = self.tail.wrapping_add(1) % ENTRIES;

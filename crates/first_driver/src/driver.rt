@@ -125,7 +125,7 @@ impl<D: Device> Driver<D> {
     /// Takes a command's end, and gives its page back.
     fn collect(&mut self, cid: u16) -> Result<Ended, Failure> {
         let status = match self.host.call(Call::Collect { q: 1, cid }) {
-            Reply::Collected(status) => status,
+            Reply::Collected { status, .. } => status,
             reply => return Err(Failure::NotDone(reply)),
         };
         let bytes = match self.host.call(Call::Gather { q: 1, cid }) {

@@ -27,7 +27,7 @@ use Rattle.machine_model.specs.{State.State, Step.Step, declared.words.Refusal.R
 use Rattle.page_memory.proofs.Bytes.{byte_in, missing_at, none_of, page_of_place, written_in, written_before, written_after}
 use Rattle.page_memory.specs.{Memory.{Memory, bytes_at, written}, Pages.{Pages, AreWhole, byte_at, page_at}}
 use Rattle.slot_table.specs.{Rows.{Row, value_at, with_value, without}, Table.{TableOf, IsPlace, with_row}}
-use Rattle.entry_codec.specs.declared.status.Status.{Status}
+use Rattle.entry_codec.specs.declared.{hints.Hints.Hints, status.Status.Status}
 use Rattle.io_commands.specs.{Asked.Request, Drafts.{DraftContents, built}, Values.{FinishedContents, TicketContents, gathered_from}}
 use Rattle.slot_table.proofs.Rows.{option_is}
 use Rattle.page_memory.proofs.Lists.{any_found}
@@ -278,17 +278,17 @@ module _ {A : Type 0} where
     by_name reply world step =
         subst (λ (k : ℕ). machine.Step s (events.Collect k cid) reply world) ticket_name.0 (subst (λ (n : ℕ). machine.Step s (events.Collect ticket.q n) reply world) ticket_name.1 step)
 
-    pub collects : (world : State) (f : FinishedContents) (status : Status) (new : Values A) → machine.Step s (events.Collect ticket.q ticket.cid) (events.Collects f) world → status ≡ f.status
+    pub collects : (world : State) (f : FinishedContents) (status : Status) (hints : Hints) (new : Values A) → machine.Step s (events.Collect ticket.q ticket.cid) (events.Collects f) world → status ≡ f.status → hints ≡ f.hints
         → new ≡ with_row (record mid { rows = without mid.rows q cid }) q cid (Some (value.Finished f))
-        → Collects (table_with s old) q cid (list_any (is_ticket q cid) (table_with s old).tickets) (reply.Collected status) (table_with world new) × IsBench world new
-    collects world f status new step ends left =
+        → Collects (table_with s old) q cid (list_any (is_ticket q cid) (table_with s old).tickets) (reply.Collected status hints) (table_with world new) × IsBench world new
+    collects world f status hints new step ends hinted left =
         let name = collected_named s world q cid f (by_name (events.Collects f) world step) in
         let next = put_next old mid q cid (value.Ticket ticket) out (value.Finished f) new left in
         let row : Row (Option (CommandValue A)) = record { q = q; cid = cid; value = Some (value.Finished f) } in
         let rows = without old.rows q cid in (
           rw found_ticket (record {
             finished = f;
-            says = ap reply.Collected ends;
+            says = ap₂ reply.Collected ends hinted;
             step = by_name (events.Collects f) world step;
             keeps = ap (table_with world) next ∙ tables_same world _ _ _ _ _ _
                 (more_none as_draft rows row refl ∙ taken_other as_draft old.rows q cid (Some (value.Ticket ticket)) out.there refl)

@@ -75,7 +75,7 @@ Cancels t q cid (Some d) answer new = ⊥
 -- a command is collected, and the finished command is kept
 pub record Collected (t : Table) (q cid : ℕ) (answer : Reply) (new : Table) : Type 0 where
   pub finished : FinishedContents
-  pub says : answer ≡ reply.Collected finished.status
+  pub says : answer ≡ reply.Collected finished.status finished.hints
   pub step : machine.Step t.world (events.Collect q cid) (events.Collects finished) new.world
   pub keeps : new ≡ record t { world = new.world; tickets = without_first (is_ticket q cid) t.tickets; finished = t.finished ++ finished ∷ [] }
 

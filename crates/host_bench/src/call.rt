@@ -2,7 +2,7 @@
 
 ghost use Rattle.std.specs.Prelude.{◌≡◌, length};
 
-use entry_codec::Status;
+use entry_codec::{Hints, Status};
 use host_core::Doorbell;
 use io_commands::{Draft, FillFault, Request};
 use machine_model::words::{Reaped, Refusal};
@@ -181,8 +181,13 @@ pub enum Reply<B = Bytes> {
         /// Where a completion was taken, the value for the head doorbell.
         bell: Option<Doorbell>,
     },
-    /// A command was collected, which ended so.
-    Collected(Status),
+    /// A command was collected.
+    Collected {
+        /// How it ended.
+        status: Status,
+        /// What its completion hinted at.
+        hints: Hints,
+    },
     /// A Read's bytes, and none of a Write or a Compare.
     Gathered(B),
     /// An admin command was sent, under this identifier of queue 0.

@@ -201,8 +201,9 @@ impl<A: Allocator + Copy> BenchTables<A> {
         match self.host.collect(&mut self.store, ticket) {
             Ok(finished) => {
                 let status = finished.status();
+                let hints = finished.hints();
                 put_next(&mut self.values, q, cid, CommandValue::Finished(finished));
-                Reply::Collected(status)
+                Reply::Collected { status, hints }
             }
             Err(Refused { value, why }) => {
                 put_back(&mut self.values, q, cid, CommandValue::Ticket(value));

@@ -25,7 +25,7 @@ use Rattle.host_core.specs.{Rows.Queue, Tables.{Tables, state_of, host_queue_of}
 use Rattle.host_core.specs.Whole.{IsWhole, IsQueue, ClaimIdentifiers, TellsQueue, TellsCommand, IsRecord, FitsWork, FitsPhase}
 use Rattle.io_commands.specs.{Asked.Request, DataBytes.PagesOut, Drafts.{DraftContents, IsDraft}, Requests.{data_count, FitsRequest}}
 use Rattle.io_commands.specs.Values.{FinishedContents, IsGood, data_part, chain_part, numbers_of}
-use Rattle.entry_codec.specs.declared.status.Status.{Status}
+use Rattle.entry_codec.specs.declared.{hints.Hints.Hints, status.Status.Status}
 use Rattle.slot_table.proofs.Rows.{option_is}
 use Rattle.page_memory.proofs.Lists.{all-filter, found_is, found_at, found_any, all-to, all-front, all-back}
 
@@ -203,12 +203,12 @@ collect-nothing t q cid is = rw (is.was, is.held) refl
 
 -- The whole of a collection
 
-pub collect_made : (t new : Tables) (q cid : ℕ) (r : Request) (st : Status) (pages : PagesOut) (f : FinishedContents) → IsWhole t → (is : StandsAt t q cid)
-    → is.entry.work ≡ Io r → is.entry.status ≡ Some st
+pub collect_made : (t new : Tables) (q cid : ℕ) (r : Request) (st : Status) (hints : Hints) (pages : PagesOut) (f : FinishedContents) → IsWhole t → (is : StandsAt t q cid)
+    → is.entry.work ≡ Io r → is.entry.status ≡ Some st → is.entry.hints ≡ hints
     → pages ≡ taken_pages is.entry.data_pages t.pages ++ taken_pages is.entry.chain_pages (without_pages is.entry.data_pages t.pages)
-    → f ≡ record { q = q; cid = cid; request = r; status = st; data_pages = data_part r pages; chain_pages = chain_part r pages }
+    → f ≡ record { q = q; cid = cid; request = r; status = st; hints = hints; data_pages = data_part r pages; chain_pages = chain_part r pages }
     → new ≡ taken_out q cid (pages_of is.entry) t → Steps t (events.Collect q cid) (events.Collects f) new
-collect_made t new q cid r st pages f whole is ew es ep ef en =
+collect_made t new q cid r st hints pages f whole is ew es eh ep ef en =
     let a = pages_with_bytes t.pages is.entry.data_pages in
     let b = pages_with_bytes t.pages is.entry.chain_pages in
     let can = collect_can_take t q cid is.entry whole is.was (in_store is.entry is.held) in
@@ -216,12 +216,12 @@ collect_made t new q cid r st pages f whole is ew es ep ef en =
     ep ∙ (sym (taken-append is.entry.data_pages is.entry.chain_pages t.pages) ∙ (taken_same (pages_of is.entry) t.pages can ∙ map-append (λ p. (p, option_map_or (λ bytes. bytes) (page_at t.pages p) [])) is.entry.data_pages is.entry.chain_pages)) in
     let size : length a ≡ data_count r.pieces = length-map is.entry.data_pages (λ p. (p, option_map_or (λ bytes. bytes) (page_at t.pages p) [])) ∙ (held_work t q cid r whole is ew).1 in
     let at = found_is (is_at q cid) t.records is.entry is.was in
-    let made : f ≡ record { q = is.entry.q; cid = is.entry.cid; request = r; status = st; data_pages = a; chain_pages = b } =
+    let made : f ≡ record { q = is.entry.q; cid = is.entry.cid; request = r; status = st; hints = hints; data_pages = a; chain_pages = b } =
     ef
-    ∙ (ap₂ (λ (x y : PagesOut). record { q = q; cid = cid; request = r; status = st; data_pages = x; chain_pages = y })
+    ∙ (ap₂ (λ (x y : PagesOut). record { q = q; cid = cid; request = r; status = st; hints = hints; data_pages = x; chain_pages = y })
     (ap (data_part r) all ∙ take_at a b (data_count r.pieces) size) (ap (chain_part r) all ∙ drop_at a b (data_count r.pieces) size)
-    ∙ ap₂ (λ (x y : ℕ). record { q = x; cid = y; request = r; status = st; data_pages = a; chain_pages = b }) (sym (ids q cid is.entry at).0) (sym (ids q cid is.entry at).1)) in
-    let finishes : finished_from (state_of t) is.entry ≡ Some f = rw (ew, es) (ap Some (sym made)) in
+    ∙ ap₂ (λ (x y : ℕ). record { q = x; cid = y; request = r; status = st; hints = hints; data_pages = a; chain_pages = b }) (sym (ids q cid is.entry at).0) (sym (ids q cid is.entry at).1)) in
+    let finishes : finished_from (state_of t) is.entry ≡ Some f = rw (ew, es, eh) (ap Some (sym made)) in
     rw en (collected_step t q cid is.entry f whole (collect-nothing t q cid is) is.was finishes)
 
 pub collected_tables : (t : Tables) (q cid : ℕ) (pages : Pages) → (is : StandsAt t q cid) → pages ≡ without_pages is.entry.chain_pages (without_pages is.entry.data_pages t.pages)

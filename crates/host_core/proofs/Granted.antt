@@ -25,6 +25,7 @@ use Rattle.slot_table.proofs.Rows.{option_is}
 use Rattle.page_memory.proofs.Bytes.{none_of}
 use Rattle.page_memory.proofs.Lists.{some_is, all-append, all-all}
 use Rattle.machine_model.proofs.Sound.{small}
+use Rattle.entry_codec.specs.declared.hints.TheConstants.Hints.{NONE}
 
 -- A reservation on the tables is the machine's, and leaves them whole.
 
@@ -267,7 +268,7 @@ made_pages t q r cid m n grants pages is =
 
 pub reserved_tables : (t : Tables) (q cid : ℕ) (r : Request) (a b : List ℕ) (pages : Pages) (owners : List Owner) (records : List Record) (queues : List Queue)
     → pages ≡ without_pages b (without_pages a t.pages) → owners ≡ with_owner (with_owner t.owners a (Command q cid Data)) b (Command q cid Chain)
-    → records ≡ t.records ++ record { q = q; cid = cid; phase = Drafted; work = Io r; data_pages = a; chain_pages = b; status = None } ∷ []
+    → records ≡ t.records ++ record { q = q; cid = cid; phase = Drafted; work = Io r; data_pages = a; chain_pages = b; status = None; hints = NONE } ∷ []
     → queues ≡ change q (with_claim cid) t.queues
     → record t { pages = pages; owners = owners; records = records; queues = queues } ≡ reserved (new_draft q cid r a b t.segment) t
 reserved_tables t q cid r a b pages owners records queues ep eo er eq =

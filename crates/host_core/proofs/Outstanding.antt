@@ -120,7 +120,7 @@ event_keeps q cid s e reply far ok c h =
       rings = λ k none far. h;
       rests = λ k is far. h;
       rejects = λ k why is far. h;
-      tells = λ k n st what e r request t heard w far. changed q cid k n (a.held st) s.host.records (λ x. refl) (λ x. refl) h;
+      tells = λ k n st what e r request t heard w far. changed q cid k n (a.held st e.hints) s.host.records (λ x. refl) (λ x. refl) h;
       hears = λ k n st what e r adm t heard w quiet none far. managed k n r adm heard.found w;
       notes = λ k n st what e r m t heard w far. managed k n r (DeleteSq m) heard.found w;
       frees = λ k n st what e r m queue t heard w at retired good far. managed k n r (DeleteCq m) heard.found w;
@@ -187,7 +187,7 @@ record_reserved s new q request d step =
 names_of : (s : State) (r : Record) (f : FinishedContents) (asked : Option Request) (o : Option Status)
     → option_and_then
     (λ (request : Request). option_map
-    (λ (st : Status). record { q = r.q; cid = r.cid; request = request; status = st; data_pages = pages_with_bytes s.memory r.data_pages; chain_pages = pages_with_bytes s.memory r.chain_pages })
+    (λ (st : Status). record { q = r.q; cid = r.cid; request = request; status = st; hints = r.hints; data_pages = pages_with_bytes s.memory r.data_pages; chain_pages = pages_with_bytes s.memory r.chain_pages })
     o)
     asked ≡ Some f → (f.q ≡ r.q) × (f.cid ≡ r.cid)
 names_of s r f None o e = absurd cc

@@ -7,7 +7,7 @@ use Rattle.host_core.proofs.Lists as lists
 use Rattle.std.proofs.Common.{◌≡◌, ℕ, zero, suc, ◌<◌, ◌∷◌, [], Option, Some, None, List, length, map, slice_get, refl, ap, sym, ◌∙◌, subst, true, ◌==◌, Bool, false, if◌then◌else◌, eqb-true, eq-eqb, filter, find, not, slice_set, length-set, arith, ◌⊎◌, inl, inr}
 use Rattle.std.proofs.lemmas.{Bool.{true≢false, and_parts, and_right, cases_Bool, cond_both, true_from_ne_false}, List.length-map, Option.slice_get-map}
 use Rattle.std.specs.{Option.{option_map_or, option_map}, List.AllByRecursion}
-use Rattle.entry_codec.specs.{Status.is_success, declared.{completion.ComEntry.ComEntry, status.{Status.Status, TheConstants.Status.ABORTED_SQ_DELETION}}}
+use Rattle.entry_codec.specs.{Status.is_success, declared.{completion.ComEntry.ComEntry, hints.{Hints.Hints, TheConstants.Hints.NONE}, status.{Status.Status, TheConstants.Status.ABORTED_SQ_DELETION}}}
 use Rattle.io_commands.specs.Asked.{Request}
 use Rattle.machine_model.proofs.{Kept.{alone_has_cq, alone_has_no_sq, asked_has_sq}, Steps.found_all}
 use Rattle.machine_model.specs.{After.{after_reap, change, held, after_admin, half_freed, half_made, gone, unmade_sq}, Claims.OwnsFit}
@@ -134,19 +134,19 @@ pub record EndsIo (t : Tables) (q cid : ℕ) (status : Status) (e : ComEntry) : 
 
 done-after : (t : Tables) (q cid : ℕ) (status : Status) (x : Queue) (e : ComEntry) → Sees t q x e → EndsIo t q cid status e
     → after_reap q (found.Done cid status) (state_of t)
-    ≡ a.on_records (with_record q cid (held status)) (a.on_ring q (knowing e.sqhd) (a.consumed q (state_of t)))
+    ≡ a.on_records (with_record q cid (held status e.hints)) (a.on_ring q (knowing e.sqhd) (a.consumed q (state_of t)))
 done-after t q cid status x e sees io =
     let s : State = state_of t in
-    ap (λ (o : Option Record). option_map_or (λ r. a.after_work r.work q cid status (option_map_or (λ y. a.heard q y s) (seen_entry s q) s)) o s) io.was
-    ∙ (ap (λ (w : Work). a.after_work w q cid status (option_map_or (λ y. a.heard q y s) (seen_entry s q) s)) io.work
-    ∙ ap (λ (o : Option ComEntry). a.on_records (with_record q cid (held status)) (option_map_or (λ y. a.heard q y s) o s)) sees.seen)
+    ap (λ (o : Option Record). option_map_or (λ r. option_map_or (λ y. a.after_work r.work q cid status y.hints (a.heard q y s)) (seen_entry s q) s) o s) io.was
+    ∙ (ap (λ (w : Work). option_map_or (λ y. a.after_work w q cid status y.hints (a.heard q y s)) (seen_entry s q) s) io.work
+    ∙ ap (λ (o : Option ComEntry). option_map_or (λ y. a.on_records (with_record q cid (held status y.hints)) (a.heard q y s)) o s) sees.seen)
 
 pub done-exact : (t : Tables) → IsWhole t → (q cid : ℕ) (status : Status) (x : Queue) (e : ComEntry) → Sees t q x e → EndsIo t q cid status e
-    → Exactly (state_of t) (events.Reap q) (events.Reaps (found.Done cid status)) (state_of (ended_with q e.sqhd cid status t))
+    → Exactly (state_of t) (events.Reap q) (events.Reaps (found.Done cid status)) (state_of (ended_with q e.sqhd cid status e.hints t))
 done-exact t w q cid status x e sees io = (
   reap-none t q x sees.at sees.live,
   sym (reaped-told (state_of t) q e sees.seen ∙ io.says),
-  ap (λ (hs : List HostQueue). with_all (state_of t) hs (with_record q cid (held status) t.records)) (heard-host t w q e.sqhd) ∙ sym (done-after t q cid status x e sees io),
+  ap (λ (hs : List HostQueue). with_all (state_of t) hs (with_record q cid (held status e.hints) t.records)) (heard-host t w q e.sqhd) ∙ sym (done-after t q cid status x e sees io),
 )
 
 -- A completion was taken, and how an I/O command ended is held: the tables stay whole.
@@ -158,36 +158,36 @@ settled-heard t w q x e sees below =
 
 -- The record is held
 
-marks-held : (status : Status) → Marks (held status)
-marks-held status = record { at = λ q cid r. refl; tells = λ owners r h. record { data_pages = h.data_pages; chain_pages = h.chain_pages } }
+marks-held : (status : Status) (hints : Hints) → Marks (held status hints)
+marks-held status hints = record { at = λ q cid r. refl; tells = λ owners r h. record { data_pages = h.data_pages; chain_pages = h.chain_pages } }
 
 pub work-cases : (w : Work) → ((request : Request) × (w ≡ Io request)) ⊎ ((kind : AdminKind) × (w ≡ Management kind))
 work-cases (Io request) = inl (request, refl)
 work-cases (Management kind) = inr (kind, refl)
 
--- an I/O command that is held, with its status
-held-as : (n : ℕ) (status : Status) (r : Record) → (request : Request) × (r.work ≡ Io request) → IsRecord n r → IsRecord n (held status r)
-held-as n status r (request, e) fits =
+-- an I/O command that is held, with its status and hints
+held-as : (n : ℕ) (status : Status) (hints : Hints) (r : Record) → (request : Request) × (r.work ≡ Io request) → IsRecord n r → IsRecord n (held status hints r)
+held-as n status hints r (request, e) fits =
     let old : FitsWork (Io request) r = subst (λ (v : Work). FitsWork v r) e fits.work in
-    record { queue = fits.queue; work = subst (λ (v : Work). FitsWork v (held status r)) (sym e) old; phase = rw e tt }
+    record { queue = fits.queue; work = subst (λ (v : Work). FitsWork v (held status hints r)) (sym e) old; phase = rw e tt }
 
-pub held-lost : (n : ℕ) (r : Record) → (request : Request) × (r.work ≡ Io request) → IsRecord n r → IsRecord n (record r { phase = Held; status = Some ABORTED_SQ_DELETION })
-held-lost n r io fits = held-as n ABORTED_SQ_DELETION r io fits
+pub held-lost : (n : ℕ) (r : Record) → (request : Request) × (r.work ≡ Io request) → IsRecord n r → IsRecord n (a.aborted r)
+held-lost n r io fits = held-as n ABORTED_SQ_DELETION NONE r io fits
 
-held-fits : (n q cid : ℕ) (status : Status) (r : Record) → (q == 0) ≡ false → is_at q cid r ≡ true → OwnsFit r.q r.work (pages_of r) → IsRecord n r → IsRecord n (held status r)
-held-fits n q cid status r io at owns fits = elim (work-cases r.work) [
-  | inl is ↦ held-as n status r is fits
+held-fits : (n q cid : ℕ) (status : Status) (hints : Hints) (r : Record) → (q == 0) ≡ false → is_at q cid r ≡ true → OwnsFit r.q r.work (pages_of r) → IsRecord n r → IsRecord n (held status hints r)
+held-fits n q cid status hints r io at owns fits = elim (work-cases r.work) [
+  | inl is ↦ held-as n status hints r is fits
   | inr (kind, e) ↦
       let none : OwnsFit r.q (Management kind) (pages_of r) = subst (λ (v : Work). OwnsFit r.q v (pages_of r)) e owns in
       absurd (true≢false (sym (eq-eqb q 0 (sym (eqb-true r.q q (and_parts (r.q == q) (r.cid == cid) at).0) ∙ none.0)) ∙ io))
 ]
 
-held-records : (n q cid : ℕ) (status : Status) (rs : List Record) → (q == 0) ≡ false → AllByRecursion (λ r. OwnsFit r.q r.work (pages_of r)) rs → AllByRecursion (IsRecord n) rs
-    → AllByRecursion (IsRecord n) (with_record q cid (held status) rs)
-held-records n q cid status [] io owns all = tt
-held-records n q cid status (r ∷ rs) io owns all = (
-  cond_both (is_at q cid r) _ _ (IsRecord n) (λ at. held-fits n q cid status r io at owns.0 all.0) (λ _. all.0),
-  held-records n q cid status rs io owns.1 all.1,
+held-records : (n q cid : ℕ) (status : Status) (hints : Hints) (rs : List Record) → (q == 0) ≡ false → AllByRecursion (λ r. OwnsFit r.q r.work (pages_of r)) rs → AllByRecursion (IsRecord n) rs
+    → AllByRecursion (IsRecord n) (with_record q cid (held status hints) rs)
+held-records n q cid status hints [] io owns all = tt
+held-records n q cid status hints (r ∷ rs) io owns all = (
+  cond_both (is_at q cid r) _ _ (IsRecord n) (λ at. held-fits n q cid status hints r io at owns.0 all.0) (λ _. all.0),
+  held-records n q cid status hints rs io owns.1 all.1,
 )
 
 io-queue : (t : Tables) → IsWhole t → (q cid : ℕ) (status : Status) (e : ComEntry) → EndsIo t q cid status e → (q == 0) ≡ false
@@ -197,19 +197,19 @@ io-queue t w q cid status e io =
     subst (λ (k : ℕ). (k == 0) ≡ false) (eqb-true io.entry.q q at.0) (subst (λ (v : Work). OwnsFit io.entry.q v (pages_of io.entry)) io.work owns)
 
 pub done-settled : (t : Tables) → IsWhole t → (q cid : ℕ) (status : Status) (x : Queue) (e : ComEntry) → Sees t q x e → EndsIo t q cid status e → e.sqhd < x.host.entries → Settled
-    (ended_with q e.sqhd cid status t)
+    (ended_with q e.sqhd cid status e.hints t)
 done-settled t w q cid status x e sees io below =
     let u : Tables = heard q e.sqhd t in
     let s : Settled u = settled-heard t w q x e sees below in
-    settled-with u u.pages u.owners u.queues (with_record q cid (held status) u.records) s
+    settled-with u u.pages u.owners u.queues (with_record q cid (held status e.hints) u.records) s
     (record {
       pool = s.pool;
       lent = s.lent;
       many = refl;
       queues = s.rings;
-      identifiers = marked-claims (held status) (marks-held status) u.records u.queues q cid s.table.identifiers;
-      owners = record { queues_told = s.table.owners.queues_told; commands_told = marked-tells (held status) (marks-held status) u.owners u.records q cid s.table.owners.commands_told };
-      records = held-records (length u.queues) q cid status u.records (io-queue t w q cid status e io) w.host.sound.works_fit s.table.records;
+      identifiers = marked-claims (held status e.hints) (marks-held status e.hints) u.records u.queues q cid s.table.identifiers;
+      owners = record { queues_told = s.table.owners.queues_told; commands_told = marked-tells (held status e.hints) (marks-held status e.hints) u.owners u.records q cid s.table.owners.commands_told };
+      records = held-records (length u.queues) q cid status e.hints u.records (io-queue t w q cid status e io) w.host.sound.works_fit s.table.records;
     })
 
 -- An admin command was reaped: what its end means, on the tables.
@@ -498,9 +498,9 @@ admin-after : (t : Tables) (q : ℕ) (x : Queue) (e : ComEntry) (kind : AdminKin
     → after_reap q (found.AdminDone e.cid e.status e.dw0) (state_of t) ≡ after_admin kind e.status (ended_state q e (state_of t))
 admin-after t q x e kind sees ends =
     let s : State = state_of t in
-    ap (λ (o : Option Record). option_map_or (λ r. a.after_work r.work q e.cid e.status (option_map_or (λ y. a.heard q y s) (seen_entry s q) s)) o s) ends.was
-    ∙ (ap (λ (v : Work). a.after_work v q e.cid e.status (option_map_or (λ y. a.heard q y s) (seen_entry s q) s)) ends.work
-    ∙ ap (λ (o : Option ComEntry). after_admin kind e.status (a.on_records (without_record q e.cid) (option_map_or (λ y. a.heard q y s) o s))) sees.seen)
+    ap (λ (o : Option Record). option_map_or (λ r. option_map_or (λ y. a.after_work r.work q e.cid e.status y.hints (a.heard q y s)) (seen_entry s q) s) o s) ends.was
+    ∙ (ap (λ (v : Work). option_map_or (λ y. a.after_work v q e.cid e.status y.hints (a.heard q y s)) (seen_entry s q) s) ends.work
+    ∙ ap (λ (o : Option ComEntry). option_map_or (λ y. after_admin kind e.status (a.on_records (without_record q e.cid) (a.heard q y s))) o s) sees.seen)
 
 -- What is reaped
 

@@ -105,7 +105,7 @@ admin-work (Io request) kind h = cc
 admin-work (Management other) kind h = cc
 
 pub reaps-done : (t new : Tables) → IsWhole t → (q : ℕ) (e : ComEntry) → Looks t q (Some e) → (is : Answered t q e None)
-    → new ≡ ended_with q e.sqhd e.cid e.status t → ReapsTo t q (found.Done e.cid e.status) new
+    → new ≡ ended_with q e.sqhd e.cid e.status e.hints t → ReapsTo t q (found.Done e.cid e.status) new
 reaps-done t new w q e l is left =
     let io = io-work is.entry.work is.means in
     let ends : EndsIo t q e.cid e.status e = record {
@@ -115,7 +115,7 @@ reaps-done t new w q e l is left =
       work = io.1;
       says = answered-says t w q l.queue e None l.at is ∙ ap (reaped_as q e) io.1;
     } in
-    let made = steps t (ended_with q e.sqhd e.cid e.status t) (events.Reap q) (events.Reaps (found.Done e.cid e.status)) w refl tt
+    let made = steps t (ended_with q e.sqhd e.cid e.status e.hints t) (events.Reap q) (events.Reaps (found.Done e.cid e.status)) w refl tt
     (done-exact t w q e.cid e.status l.queue e (sees t q e l) ends)
     (done-settled t w q e.cid e.status l.queue e (sees t q e l) ends (head-below t q l.queue e None l.at is)) in
     rw left (record { step = made.step; whole = made.whole })
@@ -136,8 +136,8 @@ reaps-admin t new w q e kind l is left =
 
 -- What is written
 
-pub held-tables : (t u new : Tables) (q : ℕ) (e : ComEntry) → u ≡ heard q e.sqhd t → new ≡ record u { records = with_record q e.cid (held e.status) u.records } → new ≡ ended_with q e.sqhd e.cid e.status t
-held-tables t u new q e eu en = en ∙ ap (λ (y : Tables). record y { records = with_record q e.cid (held e.status) y.records }) eu
+pub held-tables : (t u new : Tables) (q : ℕ) (e : ComEntry) → u ≡ heard q e.sqhd t → new ≡ record u { records = with_record q e.cid (held e.status e.hints) u.records } → new ≡ ended_with q e.sqhd e.cid e.status e.hints t
+held-tables t u new q e eu en = en ∙ ap (λ (y : Tables). record y { records = with_record q e.cid (held e.status e.hints) y.records }) eu
 
 pub over-tables : (t u v : Tables) (q : ℕ) (e : ComEntry) (queues : List Queue) → u ≡ heard q e.sqhd t → v ≡ record u { records = without_record q e.cid u.records } → queues ≡ change q (without_claim e.cid) v.queues
     → record v { queues = queues } ≡ over q e.sqhd e.cid t
@@ -248,7 +248,7 @@ lost-claims q records p claimed = claims-same records (map (lost q) records) p c
 lost-fits : (n q : ℕ) (r : Record) → (q == 0) ≡ false → OwnsFit r.q r.work (pages_of r) → IsRecord n r → IsRecord n (lost q r)
 lost-fits n q r io owns fits = cond_both (is_lost q r) _ _ (IsRecord n) held (λ _. fits)
   where
-    held : is_lost q r ≡ true → IsRecord n (record r { phase = Held; status = Some ABORTED_SQ_DELETION })
+    held : is_lost q r ≡ true → IsRecord n (a.aborted r)
     held e = elim (work-cases r.work) [
       | inl is ↦ held-lost n r is fits
       | inr (kind, is) ↦

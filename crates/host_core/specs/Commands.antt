@@ -1,6 +1,7 @@
 -- What the calls about a command leave of the tables.
 use Rattle.std.specs.Option.{option_map, option_map_or}
 use Rattle.std.specs.Prelude.{◌≡◌, ℕ, ◌+◌, ◌<◌, ◌≤◌, ◌==◌, ◌||◌, not, Bool, true, false, Option, Some, None, IsSome, position, find, length, List, [], ◌∷◌, ◌++◌, slice_get, slice_set}
+use Rattle.entry_codec.specs.declared.hints.TheConstants.Hints.{NONE}
 use Rattle.io_commands.specs.{Asked.Request, DataBytes.PagesOut, Drafts.DraftContents, Requests.data_count, Values.{numbers_of, IsGood}}
 use Rattle.machine_model.specs.{After.{change, collected}, Claims.is_away, Memory.{without_pages, with_pages, zeroed_pages}}
 use Rattle.machine_model.specs.{Placement.{placed, without_numbers, chain_wanted}, Refusals.{refusal_of, is_drafted, is_collected, is_of, in_service}}
@@ -33,6 +34,7 @@ record_of_draft d =
       data_pages = numbers_of d.data_pages;
       chain_pages = numbers_of d.chain_pages;
       status = None;
+      hints = NONE;
     }
 
 -- a draft's pages are its command's, and out; its identifier is claimed, and its record stands behind the others

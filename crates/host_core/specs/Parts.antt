@@ -16,6 +16,7 @@ record_of q cid kept =
       data_pages = kept.data_pages;
       chain_pages = kept.chain_pages;
       status = kept.status;
+      hints = kept.hints;
     }
 
 -- the records, in the order in which their commands were made

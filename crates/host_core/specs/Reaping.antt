@@ -1,7 +1,7 @@
 -- The host reaps a completion.
 use Rattle.std.specs.{Option.option_map_or, Prelude.{◌≡◌, ℕ, ◌<◌, ◌&&◌, Bool, true, false, Option, Some, None, List, find, slice_get, if◌then◌else◌, not}}
 use Rattle.admin_commands.specs.declared.AdminKind.{AdminKind, TheVariants.{Abort, DeleteSq, DeleteCq, CreateCq, CreateSq}}
-use Rattle.entry_codec.specs.{Status.is_success, declared.{completion.ComEntry.ComEntry, status.Status.Status}}
+use Rattle.entry_codec.specs.{Status.is_success, declared.{completion.ComEntry.ComEntry, hints.Hints.Hints, status.Status.Status}}
 use Rattle.machine_model.specs.{After.{change, held}, Refusals.{has_cq_alone, is_reaped, seen_entry}, State.{Record, is_at, with_record, without_record}}
 use Rattle.machine_model.specs.{Step.Step, Work.Work, declared.words.HostState.{HostState, TheVariants.{Live, Deleting, Gone, HalfMade}}}
 use Rattle.machine_model.specs.declared.words.{Phase.TheVariants.Submitted, Reaped.Reaped, Work.TheVariants.{Io, Management}}
@@ -42,9 +42,9 @@ with_completion_heard sqhd queue = with_head_known sqhd (with_completion_taken q
 abbrev pub heard : ℕ → ℕ → Tables → Tables
 heard q sqhd t = record t { queues = change q (with_completion_heard sqhd) t.queues }
 
--- and once how an I/O command ended is held
-abbrev pub ended_with : ℕ → ℕ → ℕ → Status → Tables → Tables
-ended_with q sqhd cid status t = record (heard q sqhd t) { records = with_record q cid (held status) t.records }
+-- and once how an I/O command ended, and what was hinted at, is held
+abbrev pub ended_with : ℕ → ℕ → ℕ → Status → Hints → Tables → Tables
+ended_with q sqhd cid status hints t = record (heard q sqhd t) { records = with_record q cid (held status hints) t.records }
 
 -- and once an admin command is over
 abbrev pub over : ℕ → ℕ → ℕ → Tables → Tables

@@ -1,6 +1,6 @@
 -- A queue and a command of the host's tables, as contracts see them.
 use Rattle.std.specs.Prelude.{ℕ, ◌+◌, ◌==◌, Option, List, [], ◌∷◌, if◌then◌else◌}
-use Rattle.entry_codec.specs.declared.status.Status.{Status}
+use Rattle.entry_codec.specs.declared.{hints.Hints.Hints, status.Status.Status}
 use Rattle.machine_model.specs.{Work.Work, declared.words.Phase.Phase}
 use Rattle.queue_pair.specs.Rings.{HostSide}
 use Rattle.slot_table.specs.Rows.{Row}
@@ -17,6 +17,7 @@ pub record RecordRow : Type 0 where
   pub data_pages : List ℕ
   pub chain_pages : List ℕ
   pub status : Option Status
+  pub hints : Hints
 
 -- how many of the rows stand in places of a queue
 abbrev pub rows_on : ℕ → List (Row RecordRow) → ℕ

@@ -9,6 +9,7 @@ use Rattle.page_ledger.specs.Owners.{pages_from, with_owner}
 use Rattle.page_memory.specs.declared.page.Half.{Half, TheVariants.{Submission, Completion}}
 use Rattle.queue_pair.specs.{Memory.half_pages, Rings.{HostSide, fresh_host_ring, none_claimed}, Slots.is_full}
 use Rattle.host_core.specs.{Commands.{passes, with_claim}, Posting.posted, Reaping.with_state, Rows.Queue, Tables.{Tables, state_of}}
+use Rattle.entry_codec.specs.declared.hints.TheConstants.Hints.{NONE}
 use Rattle.machine_model.specs.Events as events
 use Rattle.page_ledger.specs.declared.owner.Owner.TheVariants as owner
 use Rattle.machine_model.specs.declared.words.Refusal.TheVariants as refusal
@@ -32,7 +33,7 @@ grants_none (CreateSq q n base) = false
 -- the record of an admin command that was just sent
 abbrev pub record_of_admin : AdminKind → ℕ → Record
 record_of_admin kind cid =
-    record { q = 0; cid = cid; phase = Submitted; work = Management kind; data_pages = []; chain_pages = []; status = None }
+    record { q = 0; cid = cid; phase = Submitted; work = Management kind; data_pages = []; chain_pages = []; status = None; hints = NONE }
 
 -- its identifier of queue 0 is claimed, and it is outstanding
 abbrev pub noted : AdminKind → ℕ → Tables → Tables

@@ -2,6 +2,7 @@
 -- block into page 4 was submitted to the I/O queue as its first entry, and waits for its completion.
 use Rattle.std.specs.Prelude.{[], ◌∷◌, None, Some, replicate, true}
 use Rattle.entry_codec.specs.{Completion.completion_bytes, declared.{completion.ComEntry.ComEntry, status.TheConstants.Status.SUCCESS}}
+use Rattle.entry_codec.specs.declared.hints.TheConstants.Hints.{NONE as no_hints}
 use Rattle.io_commands.specs.{Asked.Request, declared.request.{Kind.TheVariants.Read, Piece.TheVariants.Data, TheConstants.Flags.NONE}}
 use Rattle.machine_model.specs.{State.{HostQueue, Record}, declared.words.{HostState.TheVariants.Live, Phase.TheVariants.Submitted, Work.TheVariants.Io}}
 use Rattle.page_memory.specs.Pages.{Pages, with_page_bytes, zero_page}
@@ -18,7 +19,7 @@ abbrev pub io_queue : HostQueue
 io_queue = record { state = Live; ring = record fresh_host_ring { tail = 1 }; sq_pages = 2 ∷ []; cq_pages = 3 ∷ [] }
 
 abbrev pub read_command : Record
-read_command = record { q = 1; cid = 0; phase = Submitted; work = Io one_block; data_pages = 4 ∷ []; chain_pages = []; status = None }
+read_command = record { q = 1; cid = 0; phase = Submitted; work = Io one_block; data_pages = 4 ∷ []; chain_pages = []; status = None; hints = no_hints }
 
 abbrev pub waiting : HostView
 waiting = record { entries = 4; segment = 2; host = record { free = 5 ∷ 6 ∷ 7 ∷ []; queues = admin_queue ∷ io_queue ∷ []; records = read_command ∷ [] } }
@@ -28,7 +29,11 @@ blank = replicate 8 (Some zero_page)
 
 -- the completion of the Read, in the first pass of the ring, and the pages with one in the first slot
 abbrev pub completion : ComEntry
-completion = record { dw0 = 0; sqhd = 1; sqid = 1; cid = 0; phase = true; status = SUCCESS }
+completion = record { dw0 = 0; sqhd = 1; sqid = 1; cid = 0; phase = true; status = SUCCESS; hints = no_hints }
+
+-- the same with each hint
+abbrev pub hinting_completion : ComEntry
+hinting_completion = record completion { hints = record { retry_delay = 2; more = true; do_not_retry = true } }
 
 abbrev pub pages_with : ComEntry → Pages
 pages_with e = with_page_bytes blank 3 0 (completion_bytes e)

@@ -19,7 +19,7 @@ use crate::record::Record;
 use crate::refused::Refused;
 use crate::spare::Spares;
 use crate::tables::HostTables;
-use entry_codec::Status;
+use entry_codec::{Hints, Status};
 use io_commands::{Finished, Request, Ticket};
 use machine_model::words::{Phase, Refusal, Work};
 use page_memory::{Page, Store};
@@ -30,6 +30,7 @@ use std::alloc::{AllocError, Allocator};
 pub(crate) struct Held<'a, A: Allocator> {
     request: &'a Request<A>,
     status: Status,
+    hints: Hints,
     pages: usize,
 }
 
@@ -38,6 +39,7 @@ pub(crate) struct Held<'a, A: Allocator> {
 struct Room<A: Allocator> {
     request: Request<A>,
     status: Status,
+    hints: Hints,
     pages: Vec<Page<A>, A>,
 }
 
@@ -47,13 +49,14 @@ fn room_for<A: Allocator + Copy>(
     alloc: A,
     held: &Held<'_, A>,
 ) -> Result<Room<A>, AllocError>
-    ensures same { IfOk result (λ room. (room.request ≡ held.now.request.now) × (room.status ≡ held.now.status)) }
+    ensures same { IfOk result (λ room. (room.request ≡ held.now.request.now) × (room.status ≡ held.now.status) × (room.hints ≡ held.now.hints)) }
     ensures room { IfOk result (λ room. (room.pages.items ≡ []) × (vec_len room.pages ≡ 0) × (held.now.pages ≤ vec_capacity room.pages)) }
 {
     let pages = spares.pages.with_room(alloc, held.pages)?;
     Ok(Room {
         request: held.request.copied_into(spares.pieces(alloc))?,
         status: held.status,
+        hints: held.hints,
         pages,
     })
 }
@@ -75,7 +78,7 @@ impl<A: Allocator> HostTables<A> {
     /// What collect reads of a command that is held.
     pub(crate) fn check_collect(&self, q: u16, cid: u16) -> Result<Held<'_, A>, Refusal>
         ensures stands { IfOk result (λ _. Over self.now (λ t. StandsAt t q cid)) }
-        ensures tells { IfOk result (λ held. Over self.now (λ t. CollectTells t q cid held.request.now held.status)) }
+        ensures tells { IfOk result (λ held. Over self.now (λ t. CollectTells t q cid held.request.now held.status held.hints)) }
         ensures pages { IfOk result (λ held. Over self.now (λ t. HasRoom t q cid held.pages)) }
         ensures refused { IfErr result (λ why. Over self.now (λ t. Refuses (state_of t) (events.Collect q cid) why [])) }
     {
@@ -86,6 +89,7 @@ impl<A: Allocator> HostTables<A> {
             (Phase::Held, Work::Io(request), Some(status)) => Ok(Held {
                 request,
                 status,
+                hints: entry.hints,
                 pages: entry.data_pages.len() + entry.chain_pages.len(),
             }),
             (Phase::Submitted, _, _) => Err(Refusal::NotYet),
@@ -104,7 +108,7 @@ impl<A: Allocator> HostTables<A> {
     ) -> Finished<A>
         requires whole { IsWhole (tables_of self.old store.old.pages) }
         requires stands { StandsAt (tables_of self.old store.old.pages) q cid }
-        requires tells { CollectTells (tables_of self.old store.old.pages) q cid room.request room.status }
+        requires tells { CollectTells (tables_of self.old store.old.pages) q cid room.request room.status room.hints }
         requires empty { (room.pages.items ≡ []) × (vec_len room.pages ≡ 0) }
         requires space { HasRoom (tables_of self.old store.old.pages) q cid (vec_capacity room.pages) }
         ensures step { Step (state_of (tables_of self.old store.old.pages)) (events.Collect q cid) (events.Collects result) (state_of (tables_of self.new store.new.pages)) }
@@ -114,12 +118,13 @@ impl<A: Allocator> HostTables<A> {
         let Room {
             request,
             status,
+            hints,
             mut pages,
         } = room;
         let entry = self.records.get_mut(q, cid).unwrap();
         take_pages(store, entry, &mut pages);
         entry.collect();
-        Finished::make(q, cid, request, status, pages)
+        Finished::make(q, cid, request, status, hints, pages)
     }
 }
 

@@ -48,7 +48,7 @@ pub mod worked;
 pub use config::Config;
 pub use data_place::DataPlace;
 pub use doorbell::Doorbell;
-pub use entry_codec::Status;
+pub use entry_codec::{Hints, Status};
 pub use host::Host;
 pub use io_commands::{FillFault, Flags, Kind, Piece, Pieces, Request, RequestFault};
 pub use machine_model::words::{HostState, OpenRefusal, Reaped, Refusal, RejectedFor};

@@ -104,14 +104,14 @@ impl<A: Allocator> HostTables<A> {
         accept_completion(&mut self.queues[usize::from(q)], entry.sqhd);
     }
 
-    /// Takes the completion of a command, and notes how the command ended.
+    /// Takes the completion of a command, and notes how the command ended and what it hints at.
     fn hold_command(&mut self, q: u16, entry: ComEntry)
         requires there { q < length self.old.queues.items }
         requires head { FitsHead self.old.queues.items q entry.sqhd }
-        ensures { Becomes self.old (ended_with q entry.sqhd entry.cid entry.status) self.new }
+        ensures { Becomes self.old (ended_with q entry.sqhd entry.cid entry.status entry.hints) self.new }
     {
         self.accept(q, entry);
-        self.hold(q, entry.cid, entry.status);
+        self.hold(q, entry.cid, entry.status, entry.hints);
     }
 
     /// Takes the completion of an admin command, and forgets the command.

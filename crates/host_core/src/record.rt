@@ -8,7 +8,7 @@ ghost use Rattle.host_core.specs.Parts.{record_of};
 ghost use Rattle.host_core.specs.Reaping.{kind_of};
 
 use admin_commands::AdminKind;
-use entry_codec::Status;
+use entry_codec::{Hints, Status};
 use io_commands::Request;
 use machine_model::words::{Phase, Work};
 use page_memory::PageNo;
@@ -28,6 +28,8 @@ pub struct Record<A: Allocator = Global> {
     pub chain_pages: Vec<PageNo, A>,
     /// How it ended, once that is known.
     pub status: Option<Status>,
+    /// What its completion hinted at; nothing until it has ended, and where no completion ended it.
+    pub hints: Hints,
 }
 
 impl<A: Allocator> Model for Record<A> {
@@ -35,7 +37,7 @@ impl<A: Allocator> Model for Record<A> {
 
     ghost Value = { RecordRow };
 
-    ghost view = { λ r. record { phase = r.phase; work = r.work; data_pages = r.data_pages.items; chain_pages = r.chain_pages.items; status = r.status } };
+    ghost view = { λ r. record { phase = r.phase; work = r.work; data_pages = r.data_pages.items; chain_pages = r.chain_pages.items; status = r.status; hints = r.hints } };
 }
 
 impl<A: Allocator> Record<A> {
@@ -95,11 +97,12 @@ impl<A: Allocator> Record<A> {
     }
 
     /// Notes how it ended.
-    pub(crate) fn hold(&mut self, status: Status)
-        ensures { (q cid : ℕ) → record_of q cid self.new ≡ held status (record_of q cid self.old) }
+    pub(crate) fn hold(&mut self, status: Status, hints: Hints)
+        ensures { (q cid : ℕ) → record_of q cid self.new ≡ held status hints (record_of q cid self.old) }
     {
         self.phase = Phase::Held;
         self.status = Some(status);
+        self.hints = hints;
     }
 
     /// Ends it, where no completion did.
@@ -107,7 +110,7 @@ impl<A: Allocator> Record<A> {
         ensures { (q cid : ℕ) → record_of q cid self.new ≡ lost q (record_of q cid self.old) }
     {
         if self.is_submitted() {
-            self.hold(Status::ABORTED_SQ_DELETION);
+            self.hold(Status::ABORTED_SQ_DELETION, Hints::NONE);
         }
     }
 }

@@ -11,7 +11,7 @@ ghost use Rattle.host_core.specs.Parts.{record_of, records_of, Becomes};
 
 use crate::record::Record;
 use crate::tables::HostTables;
-use entry_codec::Status;
+use entry_codec::{Hints, Status};
 use std::alloc::Allocator;
 
 impl<A: Allocator> HostTables<A> {
@@ -52,11 +52,11 @@ impl<A: Allocator> HostTables<A> {
     }
 
     /// Notes how a command ended.
-    pub(crate) fn hold(&mut self, q: u16, cid: u16, status: Status)
-        ensures { Becomes self.old (λ t. record t { records = with_record q cid (held status) t.records }) self.new }
+    pub(crate) fn hold(&mut self, q: u16, cid: u16, status: Status, hints: Hints)
+        ensures { Becomes self.old (λ t. record t { records = with_record q cid (held status hints) t.records }) self.new }
     {
         match self.records.get_mut(q, cid) {
-            Some(entry) => entry.hold(status),
+            Some(entry) => entry.hold(status, hints),
             None => {}
         }
     }

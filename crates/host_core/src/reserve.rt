@@ -19,6 +19,7 @@ use crate::record::Record;
 use crate::refused::Refused;
 use crate::spare::Spares;
 use crate::tables::HostTables;
+use entry_codec::Hints;
 use io_commands::{Draft, Request};
 use machine_model::words::{Phase, Refusal, Work};
 use page_ledger::NoPages;
@@ -131,6 +132,7 @@ impl<A: Allocator + Copy> HostTables<A> {
             data_pages: data_numbers,
             chain_pages: chain_numbers,
             status: None,
+            hints: Hints::NONE,
         };
         self.add_record(q, grant.cid, record);
         Draft::make(q, grant.cid, request, pages, usize::from(self.segment))

@@ -28,6 +28,7 @@ use crate::queues::{
 use crate::record::Record;
 use crate::tables::HostTables;
 use admin_commands::{AdminKind, entry};
+use entry_codec::Hints;
 use machine_model::words::{HostState, Phase, Refusal, Work};
 use page_memory::Store;
 use std::alloc::Allocator;
@@ -175,6 +176,7 @@ impl<A: Allocator + Copy> HostTables<A> {
             data_pages: Vec::new(self.alloc),
             chain_pages: Vec::new(self.alloc),
             status: None,
+            hints: Hints::NONE,
         };
         self.add_record(0, cid, record);
     }

@@ -3,7 +3,7 @@
 
 ghost use Rattle.std.specs.Prelude.{◌≡◌, ◌∷◌, [], Some, None, true, false};
 ghost use Rattle.entry_codec.specs.declared.status.TheConstants.Status.{SUCCESS};
-ghost use Rattle.machine_model.specs.After.{after};
+ghost use Rattle.machine_model.specs.After.{after, held};
 ghost use Rattle.machine_model.specs.Events as events;
 ghost use Rattle.machine_model.specs.Refusals.{refusal_of};
 ghost use Rattle.machine_model.specs.Step.{reaped};
@@ -13,7 +13,7 @@ ghost use Rattle.machine_model.specs.declared.words.Refusal.TheVariants as refus
 ghost use Rattle.host_core.specs.Alone.{alone};
 ghost use Rattle.host_core.specs.Laws.{shown};
 ghost use Rattle.host_core.specs.Ringing.{head_of, tail_of};
-ghost use Rattle.host_core.specs.Worked.{blank, completion, pages_with, waiting};
+ghost use Rattle.host_core.specs.Worked.{blank, completion, hinting_completion, pages_with, read_command, waiting};
 
 /// A Read waits for its completion: none is there, it cannot be collected yet, and the tail to ring is 1.
 pub fn worked_waiting()
@@ -27,6 +27,11 @@ pub fn worked_reap()
     ensures found { reaped (alone waiting (pages_with completion)) 1 ≡ Done 0 SUCCESS }
     ensures head { head_of (shown (after (alone waiting (pages_with completion)) (events.Reap 1) (events.Reaps (Done 0 SUCCESS)))) 1 ≡ Some 1 }
     ensures held { refusal_of (after (alone waiting (pages_with completion)) (events.Reap 1) (events.Reaps (Done 0 SUCCESS))) (events.Collect 1 0) ≡ None }
+{}
+
+/// What its completion hints at is kept with the status.
+pub fn worked_hints()
+    ensures { (shown (after (alone waiting (pages_with hinting_completion)) (events.Reap 1) (events.Reaps (Done 0 SUCCESS)))).host.records ≡ (held SUCCESS hinting_completion.hints read_command ∷ []) }
 {}
 
 /// Entries that no such controller posts: each is rejected with its cause, and one of the other phase is not seen.

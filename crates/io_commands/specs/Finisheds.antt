@@ -9,6 +9,7 @@ contents_of f =
       cid = f.cid;
       request = f.request;
       status = f.status;
+      hints = f.hints;
       data_pages = data_part f.request f.pages.items;
       chain_pages = chain_part f.request f.pages.items;
     }

@@ -1,6 +1,6 @@
 -- What tickets and finished commands are.
 use Rattle.std.specs.Prelude.{◌≡◌, ℕ, None, List, [], map, take, drop, sum_by}
-use Rattle.entry_codec.specs.declared.status.Status.{Status}
+use Rattle.entry_codec.specs.declared.{hints.Hints.Hints, status.Status.Status}
 use Rattle.io_commands.specs.{Asked.Request, DataBytes.{PagesOut, data_length, gathered}, Requests.{data_count, fault_of}, declared.request.Kind.Kind}
 use Rattle.io_commands.specs.declared.request.{Kind.TheVariants.{Read, Write, Compare}, Piece.Piece}
 
@@ -9,12 +9,13 @@ pub record TicketContents : Type 0 where
   pub q : ℕ
   pub cid : ℕ
 
--- a command that has ended, with its pages: one for each data piece, and those of the chain
+-- a command that has ended, with what its completion hinted at and its pages: one for each data piece, and those of the chain
 pub record FinishedContents : Type 0 where
   pub q : ℕ
   pub cid : ℕ
   pub request : Request
   pub status : Status
+  pub hints : Hints
   pub data_pages : PagesOut
   pub chain_pages : PagesOut
 

@@ -9,17 +9,18 @@ ghost use Rattle.io_commands.specs.Values.{IsGood, data_part, chain_part, gather
 
 use crate::data_bytes::{holds, push_data};
 use crate::request::{Kind, Request};
-use entry_codec::Status;
+use entry_codec::{Hints, Status};
 use page_memory::Page;
 use std::alloc::{AllocError, Allocator, Global};
 use std::marker::Model;
 
-/// A command that has ended: its status, and its pages with their bytes. It must be spent: it is no `Drop`.
+/// A command that has ended: its status and hints, and its pages with their bytes. It must be spent: it is no `Drop`.
 pub struct Finished<A: Allocator = Global> {
     q: u16,
     cid: u16,
     request: Request<A>,
     status: Status,
+    hints: Hints,
     pages: Vec<Page<A>, A>,
 }
 
@@ -45,6 +46,8 @@ pub struct FinishedParts<A: Allocator = Global> {
     pub request: Request<A>,
     /// How it ended.
     pub status: Status,
+    /// What its completion hinted at.
+    pub hints: Hints,
     /// The pages with their bytes: one for each data piece, then those of the chain.
     pub pages: Vec<Page<A>, A>,
 }
@@ -56,17 +59,19 @@ impl<A: Allocator> Finished<A> {
         cid: u16,
         request: Request<A>,
         status: Status,
+        hints: Hints,
         pages: Vec<Page<A>, A>,
     ) -> Self
         requires good { IsGood request }
         requires enough { data_count request.pieces ≤ length pages.items }
-        ensures { result ≡ record { q = q; cid = cid; request = request; status = status; data_pages = data_part request pages.items; chain_pages = chain_part request pages.items } }
+        ensures { result ≡ record { q = q; cid = cid; request = request; status = status; hints = hints; data_pages = data_part request pages.items; chain_pages = chain_part request pages.items } }
     {
         Finished {
             q,
             cid,
             request,
             status,
+            hints,
             pages,
         }
     }
@@ -111,6 +116,13 @@ impl<A: Allocator> Finished<A> {
         ensures { result ≡ self.now.status }
     {
         self.status
+    }
+
+    /// What its completion hinted at; nothing where none ended it.
+    pub fn hints(&self) -> Hints
+        ensures { result ≡ self.now.hints }
+    {
+        self.hints
     }
 
     /// The pages with their bytes: one for each data piece, then those of the chain.
@@ -173,6 +185,7 @@ impl<A: Allocator> Finished<A> {
         ensures identifier { result.cid ≡ self.cid }
         ensures request { result.request ≡ self.request }
         ensures status { result.status ≡ self.status }
+        ensures hints { result.hints ≡ self.hints }
         ensures pages { result.pages.items ≡ self.data_pages ++ self.chain_pages }
     {
         let Finished {
@@ -180,6 +193,7 @@ impl<A: Allocator> Finished<A> {
             cid,
             request,
             status,
+            hints,
             pages,
         } = self;
         FinishedParts {
@@ -187,6 +201,7 @@ impl<A: Allocator> Finished<A> {
             cid,
             request,
             status,
+            hints,
             pages,
         }
     }

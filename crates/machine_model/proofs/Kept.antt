@@ -121,7 +121,7 @@ awaited_event of test waits s e reply ok c holds h =
       rings = λ q none. h;
       rests = λ q is. h;
       rejects = λ q why is. awaited_ring of test s.host.records s.host.queues q (next_head s.entries) h;
-      tells = λ q cid st what e r request t heard w. awaited_heard of test (with_record q cid (a.held st) s.host.records) q e s (with q cid (a.held st) (λ r'. refl));
+      tells = λ q cid st what e r request t heard w. awaited_heard of test (with_record q cid (a.held st e.hints) s.host.records) q e s (with q cid (a.held st e.hints) (λ r'. refl));
       hears = λ q cid st what e r adm t heard w quiet unmade.
           awaited_less of test s.host.records (a.heard q e s).host.queues q cid r heard.found (holds.once q cid) (λ z. nobody_waits q cid st e r adm heard w quiet unmade z (of z r.work) refl) (told q e);
       notes = λ q cid st what e r k t heard w.
@@ -473,7 +473,7 @@ bare_of s e reply ok c holds =
       rings = λ q none. h;
       rests = λ q is. h;
       rejects = λ q why is. bare_ring s.host.records q (next_head s.entries) s.host.queues h;
-      tells = λ q cid st what e r request t heard w. told _ q e (bare_with q cid (a.held st) (λ r'. refl) s.host.records s.host.queues h);
+      tells = λ q cid st what e r request t heard w. told _ q e (bare_with q cid (a.held st e.hints) (λ r'. refl) s.host.records s.host.queues h);
       hears = λ q cid st what e r adm t heard w quiet unmade. ended q cid e;
       notes = λ q cid st what e r k t heard w.
           used q cid e k (λ queue. record queue { state = if is_success st then Deleting true else Live })

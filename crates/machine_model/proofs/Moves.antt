@@ -10,6 +10,7 @@ use Rattle.machine_model.specs.State.{State, PostedCompletion, HostQueue, HostSt
 use Rattle.machine_model.specs.Step.{IsController, IsReserved, IsNewIdentifier, finished_from, reaped, fits_ring}
 use Rattle.admin_commands.specs.{Entries.admin_entry, declared.AdminKind.{AdminKind, TheVariants.{Abort, DeleteSq, DeleteCq, CreateCq, CreateSq}}}
 use Rattle.entry_codec.specs.{Status.is_success, Submission.submission_bytes, declared.{completion.ComEntry.ComEntry, status.Status.Status, submission.SubEntry.SubEntry}}
+use Rattle.entry_codec.specs.declared.hints.TheConstants.Hints.{NONE}
 use Rattle.io_commands.specs.{Asked.Request, Drafts.DraftContents, Values.{FinishedContents, numbers_of}}
 use Rattle.page_memory.specs.{Pages.{Pages, with_page_bytes}, declared.page.Half.{Half, TheVariants.{Submission, Completion}}}
 use Rattle.queue_pair.specs.{Memory.half_pages, Rings.next_tail}
@@ -37,10 +38,10 @@ posted_bits q entry s = grind (arith, in_store-with_bytes)
 -- Records that begin
 
 abbrev pub drafted_record : DraftContents → Record
-drafted_record d = record { q = d.q; cid = d.cid; phase = Drafted; work = Io d.request; data_pages = numbers_of d.data_pages; chain_pages = numbers_of d.chain_pages; status = None }
+drafted_record d = record { q = d.q; cid = d.cid; phase = Drafted; work = Io d.request; data_pages = numbers_of d.data_pages; chain_pages = numbers_of d.chain_pages; status = None; hints = NONE }
 
 abbrev pub sent_record : AdminKind → ℕ → Record
-sent_record adm id = record { q = 0; cid = id; phase = Submitted; work = Management adm; data_pages = []; chain_pages = []; status = None }
+sent_record adm id = record { q = 0; cid = id; phase = Submitted; work = Management adm; data_pages = []; chain_pages = []; status = None; hints = NONE }
 
 abbrev pub sends : AdminKind → ℕ → State → State
 sends adm id s = posts 0 (admin_entry adm id) (a.on_records (λ records. records ++ sent_record adm id ∷ []) s)
@@ -128,7 +129,7 @@ pub record HostMoves (P : Event → Reply → State → Type 0) (s : State) : Ty
   pub rests : (q : ℕ) → events.Empty ≡ reaped s q → P (events.Reap q) (events.Reaps events.Empty) s
   pub rejects : (q : ℕ) (why : events.RejectedFor) → events.Rejected why ≡ reaped s q → P (events.Reap q) (events.Reaps (events.Rejected why)) (a.consumed q s)
   pub tells : (q cid : ℕ) (st : Status) (what : Reaped) (e : ComEntry) (r : Record) (request : Request) → ReapTells s q cid st what → IsHeard s q cid st e r → r.work ≡ Io request
-      → P (events.Reap q) (events.Reaps what) (a.on_records (with_record q cid (a.held st)) (a.heard q e s))
+      → P (events.Reap q) (events.Reaps what) (a.on_records (with_record q cid (a.held st e.hints)) (a.heard q e s))
   pub hears : (q cid : ℕ) (st : Status) (what : Reaped) (e : ComEntry) (r : Record) (adm : AdminKind) → ReapTells s q cid st what → IsHeard s q cid st e r → r.work ≡ Management adm
       → ((k : ℕ) → deletes_sq_of k (Management adm) ≡ false) → ((k : ℕ) → (creates_cq_of k (Management adm) || creates_sq_of k (Management adm)) ≡ true → host_queue (a.heard q e s) k ≡ None)
       → P (events.Reap q) (events.Reaps what) (heard_without q cid e s)
@@ -270,13 +271,13 @@ alone : (b : Bool) → (b || false) ≡ true → b ≡ true
 alone b h = grind arith
 
 told : (P : Event → Reply → State → Type 0) (s : State) (q cid : ℕ) (st : Status) (what : Reaped) → HostMoves P s → ReapTells s q cid st what
-    → P (events.Reap q) (events.Reaps what) (option_map_or (λ r. a.after_work r.work q cid st (option_map_or (λ e. a.heard q e s) (seen_entry s q) s)) (record_at s.host q cid) s)
+    → P (events.Reap q) (events.Reaps what) (option_map_or (λ r. option_map_or (λ e. a.after_work r.work q cid st e.hints (a.heard q e s)) (seen_entry s q) s) (record_at s.host q cid) s)
 told P s q cid st what move t =
     let x = heard_of s q cid st what t in
-    subst (λ (o : Option Record). P (events.Reap q) (events.Reaps what) (option_map_or (λ r. a.after_work r.work q cid st (option_map_or (λ e. a.heard q e s) (seen_entry s q) s)) o s)) (sym x.2.found)
-    (subst (λ (o : Option ComEntry). P (events.Reap q) (events.Reaps what) (a.after_work x.1.work q cid st (option_map_or (λ e. a.heard q e s) o s))) (sym x.2.seen) (by x.0 x.1 x.2 x.1.work refl))
+    subst (λ (o : Option Record). P (events.Reap q) (events.Reaps what) (option_map_or (λ r. option_map_or (λ e. a.after_work r.work q cid st e.hints (a.heard q e s)) (seen_entry s q) s) o s)) (sym x.2.found)
+    (subst (λ (o : Option ComEntry). P (events.Reap q) (events.Reaps what) (option_map_or (λ e. a.after_work x.1.work q cid st e.hints (a.heard q e s)) o s)) (sym x.2.seen) (by x.0 x.1 x.2 x.1.work refl))
   where
-    by : (e : ComEntry) (r : Record) → IsHeard s q cid st e r → (w : Work) → r.work ≡ w → P (events.Reap q) (events.Reaps what) (a.after_work w q cid st (a.heard q e s))
+    by : (e : ComEntry) (r : Record) → IsHeard s q cid st e r → (w : Work) → r.work ≡ w → P (events.Reap q) (events.Reaps what) (a.after_work w q cid st e.hints (a.heard q e s))
     by e r heard (Io request) w = move.tells q cid st what e r request t heard w
     by e r heard (Management (Abort k c)) w = move.hears q cid st what e r (Abort k c) t heard w (λ k. refl) (λ k is. absurd (true≢false (sym is)))
     by e r heard (Management (DeleteSq k)) w = move.notes q cid st what e r k t heard w

@@ -337,14 +337,14 @@ awaited_ends of test rs hs f k at c r is once others moves h q = grind (arith, t
 
 pub lost_keeps : KeepsRecord a.lost_anywhere
 lost_keeps = record {
-  q = λ r. (elim (is_submitted r.phase) as (λ b. (if b then record r { phase = Held; status = Some ABORTED_SQ_DELETION } else r).q ≡ r.q) [ true ↦ refl | false ↦ refl ]);
-  cid = λ r. (elim (is_submitted r.phase) as (λ b. (if b then record r { phase = Held; status = Some ABORTED_SQ_DELETION } else r).cid ≡ r.cid) [ true ↦ refl | false ↦ refl ]);
-  work = λ r. (elim (is_submitted r.phase) as (λ b. (if b then record r { phase = Held; status = Some ABORTED_SQ_DELETION } else r).work ≡ r.work) [ true ↦ refl | false ↦ refl ]);
-  pages = λ r. (elim (is_submitted r.phase) as (λ b. pages_of (if b then record r { phase = Held; status = Some ABORTED_SQ_DELETION } else r) ≡ pages_of r) [ true ↦ refl | false ↦ refl ]);
+  q = λ r. (elim (is_submitted r.phase) as (λ b. (if b then a.aborted r else r).q ≡ r.q) [ true ↦ refl | false ↦ refl ]);
+  cid = λ r. (elim (is_submitted r.phase) as (λ b. (if b then a.aborted r else r).cid ≡ r.cid) [ true ↦ refl | false ↦ refl ]);
+  work = λ r. (elim (is_submitted r.phase) as (λ b. (if b then a.aborted r else r).work ≡ r.work) [ true ↦ refl | false ↦ refl ]);
+  pages = λ r. (elim (is_submitted r.phase) as (λ b. pages_of (if b then a.aborted r else r) ≡ pages_of r) [ true ↦ refl | false ↦ refl ]);
 }
 
 -- a record either stays or is held with one status, with the same pages for the same work
-pub lost_by : (P : Record → Type 0) (r : Record) → (is_submitted r.phase ≡ false → P r) → (is_submitted r.phase ≡ true → P (record r { phase = Held; status = Some ABORTED_SQ_DELETION })) → P (a.lost_anywhere r)
+pub lost_by : (P : Record → Type 0) (r : Record) → (is_submitted r.phase ≡ false → P r) → (is_submitted r.phase ≡ true → P (a.aborted r)) → P (a.lost_anywhere r)
 lost_by P r stays lost = elim (cases_Bool (is_submitted r.phase)) [ inl e ↦ rw e (lost e) | inr e ↦ rw e (stays e) ]
 
 pub lost_quiet : (r : Record) → is_submitted (a.lost_anywhere r).phase ≡ false

@@ -5,6 +5,7 @@ use Rattle.std.proofs.Common.{◌≡◌, ℕ, zero, suc, ◌+◌, ◌<◌, Bool,
 use Rattle.std.{proofs.lemmas.Bool.{cases_Bool}}
 use Rattle.entry_codec.specs.{Status.is_success, declared.{completion.ComEntry.ComEntry, status.{Status.Status, TheConstants.Status.ABORTED_SQ_DELETION}}}
 use Rattle.entry_codec.specs.declared.submission.SubEntry.{SubEntry}
+use Rattle.entry_codec.specs.declared.hints.TheConstants.Hints.{NONE}
 use Rattle.admin_commands.specs.{Entries.admin_entry, declared.AdminKind.{AdminKind, TheVariants.{DeleteSq, Abort, DeleteCq, CreateCq, CreateSq}}}
 use Rattle.page_memory.specs.{Pages.{Pages, with_page_bytes}, declared.page.Half.TheVariants.{Submission, Completion}}
 use Rattle.queue_pair.specs.{Memory.half_pages, Rings.{HostRing, next_tail, next_head, knowing}}
@@ -210,7 +211,7 @@ ok-reserve : (s : State) (d : DraftContents) → (d.q == 0) ≡ false → IsNewI
     → Ok s → Ok (a.after_reserve d s)
 ok-reserve s d other new are h =
     let pages = numbers_of d.data_pages ++ numbers_of d.chain_pages in
-    let record' : Record = record { q = d.q; cid = d.cid; phase = Drafted; work = Io d.request; data_pages = numbers_of d.data_pages; chain_pages = numbers_of d.chain_pages; status = None } in
+    let record' : Record = record { q = d.q; cid = d.cid; phase = Drafted; work = Io d.request; data_pages = numbers_of d.data_pages; chain_pages = numbers_of d.chain_pages; status = None; hints = NONE } in
     let count = length (in_store s.memory) in
     recount count (length (in_store (without_pages pages s.memory)))
     (record s.host { free = without_numbers pages s.host.free; records = s.host.records ++ record' ∷ [] })
@@ -321,7 +322,7 @@ owns_event s e reply ok c holds =
       rings = λ q none. h;
       rests = λ q is. h;
       rejects = λ q why is. ok-ring q (next_head s.entries) s h;
-      tells = λ q cid st what e r request t heard w. ok-with q cid (a.held st) (a.heard q e s) (record { q = λ r'. refl; cid = λ r'. refl; work = λ r'. refl; pages = λ r'. refl }) (told q e);
+      tells = λ q cid st what e r request t heard w. ok-with q cid (a.held st e.hints) (a.heard q e s) (record { q = λ r'. refl; cid = λ r'. refl; work = λ r'. refl; pages = λ r'. refl }) (told q e);
       hears = λ q cid st what e r adm t heard w quiet unmade. ended q cid e r adm heard.found w;
       notes = λ q cid st what e r k t heard w.
           ok-queue k (λ queue. record queue { state = if is_success st then Deleting true else Live }) (heard_without q cid e s) (λ p queue. refl) (ended q cid e r (DeleteSq k) heard.found w);
@@ -351,10 +352,10 @@ owns_event s e reply ok c holds =
           ok-half_freed queue.sq_pages a.retired q queue (a.on_records (λ records. map (a.lost q) records) s) at (λ p. omega arith)
           (owns_map (length (in_store s.memory)) s.host (a.lost q)
           (record {
-            q = λ r. (elim ((r.q == q) && is_submitted r.phase) as (λ b. (if b then record r { phase = Held; status = Some ABORTED_SQ_DELETION } else r).q ≡ r.q) [ true ↦ refl | false ↦ refl ]);
-            cid = λ r. (elim ((r.q == q) && is_submitted r.phase) as (λ b. (if b then record r { phase = Held; status = Some ABORTED_SQ_DELETION } else r).cid ≡ r.cid) [ true ↦ refl | false ↦ refl ]);
-            work = λ r. (elim ((r.q == q) && is_submitted r.phase) as (λ b. (if b then record r { phase = Held; status = Some ABORTED_SQ_DELETION } else r).work ≡ r.work) [ true ↦ refl | false ↦ refl ]);
-            pages = λ r. (elim ((r.q == q) && is_submitted r.phase) as (λ b. pages_of (if b then record r { phase = Held; status = Some ABORTED_SQ_DELETION } else r) ≡ pages_of r) [ true ↦ refl | false ↦ refl ]);
+            q = λ r. (elim ((r.q == q) && is_submitted r.phase) as (λ b. (if b then a.aborted r else r).q ≡ r.q) [ true ↦ refl | false ↦ refl ]);
+            cid = λ r. (elim ((r.q == q) && is_submitted r.phase) as (λ b. (if b then a.aborted r else r).cid ≡ r.cid) [ true ↦ refl | false ↦ refl ]);
+            work = λ r. (elim ((r.q == q) && is_submitted r.phase) as (λ b. (if b then a.aborted r else r).work ≡ r.work) [ true ↦ refl | false ↦ refl ]);
+            pages = λ r. (elim ((r.q == q) && is_submitted r.phase) as (λ b. pages_of (if b then a.aborted r else r) ≡ pages_of r) [ true ↦ refl | false ↦ refl ]);
           })
           h);
       forges = λ q slot bytes queue none at.
@@ -500,8 +501,8 @@ fits_event s e reply ok c h =
       rests = λ q is. h.1;
       rejects = λ q why is. h.1;
       tells = λ q cid st what e r request t heard w.
-          same_taken s (with_record q cid (a.held st) s.host.records)
-          (λ p. omega (arith, total_with (taken p) q cid (a.held st) s.host.records r heard.found (h.0.once q cid), taken_when p r false (submitted_in r.phase heard.submitted))) h.1;
+          same_taken s (with_record q cid (a.held st e.hints) s.host.records)
+          (λ p. omega (arith, total_with (taken p) q cid (a.held st e.hints) s.host.records r heard.found (h.0.once q cid), taken_when p r false (submitted_in r.phase heard.submitted))) h.1;
       hears = λ q cid st what e r adm t heard w quiet unmade. without q cid r heard.found heard.submitted;
       notes = λ q cid st what e r k t heard w. without q cid r heard.found heard.submitted;
       frees = λ q cid st what e r k queue t heard w at retired good. without q cid r heard.found heard.submitted;

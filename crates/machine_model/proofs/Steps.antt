@@ -7,6 +7,7 @@ use Rattle.entry_codec.specs.{Completion.completion_bytes, Status.is_success}
 use Rattle.entry_codec.specs.declared.{admin_opcode.TheConstants.{ABORT, DELETE_IO_SQ, DELETE_IO_CQ, CREATE_IO_CQ, CREATE_IO_SQ}, status.Status.Status}
 use Rattle.entry_codec.specs.declared.status.TheConstants.Status.{SUCCESS, INVALID_OPCODE, INVALID_FIELD, ABORT_REQUESTED, INVALID_QUEUE_IDENTIFIER, INVALID_QUEUE_SIZE, INVALID_QUEUE_DELETION, COMPLETION_QUEUE_INVALID, COMMAND_ID_CONFLICT}
 use Rattle.entry_codec.specs.declared.submission.SubEntry.{SubEntry}
+use Rattle.entry_codec.specs.declared.hints.TheConstants.Hints.{NONE}
 use Rattle.admin_commands.specs.Entries.{named_queue, named_command, named_size, named_base, named_completion_queue, is_contiguous, is_opcode}
 use Rattle.admin_commands.specs.Verdicts.{is_absent, is_live as is_running, is_io_queue, half_fault, abort_verdict, delete_sq_verdict, delete_cq_verdict, create_cq_verdict, create_sq_verdict}
 use Rattle.admin_commands.specs.declared.{AdminVerdict.{AdminVerdict, TheVariants.{Answer, MakeCompletion, MakeSubmission}}, DeviceView.DeviceView}
@@ -135,9 +136,9 @@ part-if b t u s et eu = grind arith
 pub part-completed : (q cid : ℕ) (st : Status) (dw0 : ℕ) (s : State) → host_part (with_posted_completion q cid st dw0 s) ≡ host_part s
 part-completed q cid st dw0 s =
     let write : HostQueue → Pages → Pages = λ queue m. with_page_bytes m (slot_page queue.cq_pages 16 (post_slot s q)) (slot_offset 16 (post_slot s q))
-    (completion_bytes (record { dw0 = dw0; sqhd = fetch_slot s q; sqid = q; cid = cid; phase = post_phase s q queue; status = st })) in
+    (completion_bytes (record { dw0 = dw0; sqhd = fetch_slot s q; sqid = q; cid = cid; phase = post_phase s q queue; status = st; hints = NONE })) in
     part-option (λ queue. on_memory (write queue) s) (host_queue s q) s
-    (λ queue. part-bytes s (slot_page queue.cq_pages 16 (post_slot s q)) (slot_offset 16 (post_slot s q)) (completion_bytes (record { dw0 = dw0; sqhd = fetch_slot s q; sqid = q; cid = cid; phase = post_phase s q queue; status = st })))
+    (λ queue. part-bytes s (slot_page queue.cq_pages 16 (post_slot s q)) (slot_offset 16 (post_slot s q)) (completion_bytes (record { dw0 = dw0; sqhd = fetch_slot s q; sqid = q; cid = cid; phase = post_phase s q queue; status = st; hints = NONE })))
 
 part-managed : (e : SubEntry) (s : State) → host_part (managed e s) ≡ host_part s
 part-managed e s =

@@ -313,7 +313,7 @@ sized_of m ds js r stands request w = (subst (λ (x : Work). StandsAs m ds js r 
 pub reset_command : (m : Pages) (ds : List ServedQueue) (js : List Job) (r : Record) → IsSizedIfIo r → CommandStands m ds js (a.lost_anywhere r)
 reset_command m ds js r sized =
     lost_by (λ (x : Record). CommandStands m ds js x) r (λ quiet. stands_quiet m ds js r r.work quiet sized)
-    (λ sub. stands_quiet m ds js (record r { phase = Held; status = Some ABORTED_SQ_DELETION }) r.work refl
+    (λ sub. stands_quiet m ds js (a.aborted r) r.work refl
     (λ request w. let is = sized request w in record { fits = is.fits; good = is.good; pages = is.pages }))
 
 pub reset_places : (hs : List HostQueue) (rs : List Record) (ds : List ServedQueue) → CommandsStandOnce hs rs (a.reset_served_queues ds) []

@@ -11,7 +11,7 @@ use Rattle.admin_commands.specs.declared.{DeviceView.DeviceView, SqState.{SqStat
 use Rattle.block_image.specs.Blocks.{block_count}
 use Rattle.sgl_descriptor.specs.declared.Direction.{Direction, TheVariants.{Destination, Source}}
 use Rattle.entry_codec.specs.{Completion.completion_bytes, Status.is_success, Submission.submission_bytes, declared.admin_opcode.TheConstants.DELETE_IO_SQ}
-use Rattle.entry_codec.specs.declared.{completion.ComEntry.ComEntry, status.Status.Status}
+use Rattle.entry_codec.specs.declared.{completion.ComEntry.ComEntry, hints.{Hints.Hints, TheConstants.Hints.NONE}, status.Status.Status}
 use Rattle.entry_codec.specs.declared.status.TheConstants.Status.{SUCCESS, COMMAND_ID_CONFLICT, ABORT_REQUESTED, ABORTED_SQ_DELETION}
 use Rattle.entry_codec.specs.declared.submission.SubEntry.{SubEntry}
 use Rattle.io_commands.specs.{Drafts.DraftContents, Jobs.{io_fault, bytes_after_check, need_of_entry, direction_of_entry, verdict_of}}
@@ -60,8 +60,12 @@ without_job q cid s = on_controller (λ d. record d { jobs = filter (λ j. not (
 abbrev pub submitted : Record → Record
 submitted r = record r { phase = Submitted }
 
-abbrev pub held : Status → Record → Record
-held st r = record r { phase = Held; status = Some st }
+abbrev pub held : Status → Hints → Record → Record
+held st hints r = record r { phase = Held; status = Some st; hints = hints }
+
+-- it ended with no completion
+abbrev pub aborted : Record → Record
+aborted r = held ABORTED_SQ_DELETION NONE r
 
 abbrev pub collected : Record → Record
 collected r = record r { phase = Collected }
@@ -119,7 +123,7 @@ abbrev pub after_reserve : DraftContents → State → State
 after_reserve d s =
     let data_pages = numbers_of d.data_pages in
     let chain_pages = numbers_of d.chain_pages in
-    on_records (λ records. records ++ record { q = d.q; cid = d.cid; phase = Drafted; work = Io d.request; data_pages = data_pages; chain_pages = chain_pages; status = None } ∷ [])
+    on_records (λ records. records ++ record { q = d.q; cid = d.cid; phase = Drafted; work = Io d.request; data_pages = data_pages; chain_pages = chain_pages; status = None; hints = NONE } ∷ [])
     (granted (data_pages ++ chain_pages) (on_memory (without_pages (data_pages ++ chain_pages)) s))
 
 abbrev pub after_submit : DraftContents → State → State
@@ -162,17 +166,17 @@ after_admin (CreateCq q n base) st s =
 after_admin (CreateSq q n base) st s =
     if is_success st then on_host_queue q live s else half_freed (λ queue. queue.sq_pages) unmade_sq q s
 
-abbrev pub after_work : Work → ℕ → ℕ → Status → State → State
-after_work (Io r) q cid st s = on_records (with_record q cid (held st)) s
-after_work (Management a) q cid st s = after_admin a st (on_records (without_record q cid) s)
+abbrev pub after_work : Work → ℕ → ℕ → Status → Hints → State → State
+after_work (Io r) q cid st hints s = on_records (with_record q cid (held st hints)) s
+after_work (Management a) q cid st hints s = after_admin a st (on_records (without_record q cid) s)
 
 abbrev pub after_reap : ℕ → Reaped → State → State
 after_reap q events.Empty s = s
 after_reap q (events.Rejected why) s = consumed q s
 after_reap q (events.Done cid st) s =
-    option_map_or (λ r. after_work r.work q cid st (option_map_or (λ e. heard q e s) (seen_entry s q) s)) (record_at s.host q cid) s
+    option_map_or (λ r. option_map_or (λ e. after_work r.work q cid st e.hints (heard q e s)) (seen_entry s q) s) (record_at s.host q cid) s
 after_reap q (events.AdminDone cid st dw0) s =
-    option_map_or (λ r. after_work r.work q cid st (option_map_or (λ e. heard q e s) (seen_entry s q) s)) (record_at s.host q cid) s
+    option_map_or (λ r. option_map_or (λ e. after_work r.work q cid st e.hints (heard q e s)) (seen_entry s q) s) (record_at s.host q cid) s
 
 abbrev pub after_collect : ℕ → ℕ → State → State
 after_collect q cid s =
@@ -182,7 +186,7 @@ after_collect q cid s =
 
 abbrev pub sent : AdminKind → ℕ → SubEntry → State → State
 sent a cid entry s =
-    posted 0 entry (on_records (λ records. records ++ record { q = 0; cid = cid; phase = Submitted; work = Management a; data_pages = []; chain_pages = []; status = None } ∷ []) s)
+    posted 0 entry (on_records (λ records. records ++ record { q = 0; cid = cid; phase = Submitted; work = Management a; data_pages = []; chain_pages = []; status = None; hints = NONE } ∷ []) s)
 
 abbrev pub after_delete_sq : ℕ → ℕ → State → State
 after_delete_sq q cid s =
@@ -212,7 +216,7 @@ after_create_sq q cid s =
     sent kind cid (admin_entry kind cid) (on_host_queue q (making_sq pages) (half_granted pages s))
 
 abbrev pub lost : ℕ → Record → Record
-lost q r = if (r.q == q) && is_submitted r.phase then record r { phase = Held; status = Some ABORTED_SQ_DELETION } else r
+lost q r = if (r.q == q) && is_submitted r.phase then aborted r else r
 
 abbrev pub after_retire : ℕ → State → State
 after_retire q s =
@@ -308,7 +312,7 @@ with_posted_completion q cid st dw0 s =
     on_served_queue q (λ at. record at { completions = at.completions ++ completion ∷ [] })
     (option_map_or
     (λ queue. on_memory (λ m. with_page_bytes m (slot_page queue.cq_pages 16 (post_slot s q)) (slot_offset 16 (post_slot s q))
-    (completion_bytes (record { dw0 = dw0; sqhd = fetch_slot s q; sqid = q; cid = cid; phase = post_phase s q queue; status = st }))) s)
+    (completion_bytes (record { dw0 = dw0; sqhd = fetch_slot s q; sqid = q; cid = cid; phase = post_phase s q queue; status = st; hints = NONE }))) s)
     (host_queue s q) s)
 
 abbrev pub taken_off : ℕ → State → State
@@ -388,7 +392,7 @@ is_of_io (Io r) = true
 is_of_io (Management a) = false
 
 abbrev pub lost_anywhere : Record → Record
-lost_anywhere r = if is_submitted r.phase then record r { phase = Held; status = Some ABORTED_SQ_DELETION } else r
+lost_anywhere r = if is_submitted r.phase then aborted r else r
 
 abbrev pub reset_records : List Record → List Record
 reset_records records = map lost_anywhere (filter (λ r. is_of_io r.work) records)

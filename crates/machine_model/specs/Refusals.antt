@@ -4,7 +4,7 @@ use Rattle.std.specs.Prelude.{ℕ, ◌+◌, ◌*◌, ◌-◌, ◌/◌, ◌%◌, 
 use Rattle.machine_model.specs.{Commands.{Work, Io, Management}, Events.{Event, Refusal}, Memory.is_in, Placement.{wanted_of, first_of_run}}
 use Rattle.machine_model.specs.State.{State, HostQueue, HostState, Live, Deleting, Retired, Gone, MakingCq, HalfMade, MakingSq, ServedQueue, Record, Phase, Drafted, Submitted, Held, Collected, Job, PostedCompletion, record_at, outstanding_on}
 use Rattle.page_memory.specs.{Pages.{Pages, page_at}, declared.page.Half.{Half, TheVariants.{Submission, Completion}}}
-use Rattle.entry_codec.specs.{Completion.completion_of, Status.is_success, declared.{admin_opcode.TheConstants.DELETE_IO_SQ, completion.ComEntry.ComEntry}}
+use Rattle.entry_codec.specs.{Completion.completion_of, Status.is_success, declared.{admin_opcode.TheConstants.DELETE_IO_SQ, completion.ComEntry.ComEntry, hints.TheConstants.Hints.NONE}}
 use Rattle.entry_codec.specs.declared.submission.SubEntry.{SubEntry}
 use Rattle.admin_commands.specs.{Entries.named_queue, Verdicts.is_live as is_running, declared.AdminKind.TheVariants.{DeleteSq, DeleteCq, CreateCq, CreateSq}}
 use Rattle.io_commands.specs.{Asked.Request, Requests.fault_of, Values.numbers_of, declared.request.{Flags.Flags, Kind.Kind}}
@@ -210,7 +210,7 @@ slot_bytes m pages size k = option_map (λ bytes. slice_range bytes (slot_offset
 
 -- the completion entry that the host sees at its head: the oldest completion, and after a forged entry whatever the slot holds with the expected phase
 abbrev pub entry_of : ℕ → PostedCompletion → ComEntry
-entry_of q a = record { dw0 = a.dw0; sqhd = a.sq_head; sqid = q; cid = a.cid; phase = true; status = a.status }
+entry_of q a = record { dw0 = a.dw0; sqhd = a.sq_head; sqid = q; cid = a.cid; phase = true; status = a.status; hints = NONE }
 
 abbrev pub front_completion : List PostedCompletion → Option PostedCompletion
 front_completion [] = None

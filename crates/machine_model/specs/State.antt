@@ -1,7 +1,7 @@
 -- The machine as lists.
 use Rattle.std.specs.Prelude.{ℕ, ◌==◌, Bool, ◌&&◌, not, Option, List, ◌++◌, map, filter, if◌then◌else◌, find}
 use Rattle.admin_commands.specs.declared.SqState.{SqState}
-use Rattle.entry_codec.specs.declared.{status.Status.Status, submission.SubEntry.SubEntry}
+use Rattle.entry_codec.specs.declared.{hints.Hints.Hints, status.Status.Status, submission.SubEntry.SubEntry}
 use Rattle.page_memory.specs.Pages.{Pages}
 use Rattle.machine_model.specs.Commands.{Work}
 use Rattle.queue_pair.specs.Rings.{HostRing}
@@ -10,7 +10,7 @@ pub use Rattle.machine_model.specs.declared.words.Phase.TheVariants.{Drafted, Su
 pub use Rattle.machine_model.specs.declared.words.HostState.{HostState}
 pub use Rattle.machine_model.specs.declared.words.HostState.TheVariants.{Live, Deleting, Retired, Gone, MakingCq, HalfMade, MakingSq}
 
--- an outstanding command. One of queue 0 owns no page and is submitted from its sending on
+-- an outstanding command: once it has ended, with its status and what its completion hinted at. One of queue 0 owns no page and is submitted from its sending on
 pub record Record : Type 0 where
   pub q : ℕ
   pub cid : ℕ
@@ -19,8 +19,9 @@ pub record Record : Type 0 where
   pub data_pages : List ℕ
   pub chain_pages : List ℕ
   pub status : Option Status
+  pub hints : Hints
 
--- a completion that was posted and not reaped
+-- a completion that was posted and not reaped: it hints at nothing
 pub record PostedCompletion : Type 0 where
   pub cid : ℕ
   pub status : Status

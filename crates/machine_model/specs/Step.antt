@@ -98,12 +98,12 @@ abbrev pub asked_by : Work → Option Request
 asked_by (Io r) = Some r
 asked_by (Management a) = None
 
--- a held record's pages taken out, with its request and status
+-- a held record's pages taken out, with its request, its status and its hints
 abbrev pub finished_from : State → Record → Option FinishedContents
 finished_from s r =
     option_and_then
     (λ asked. option_map
-    (λ st. record { q = r.q; cid = r.cid; request = asked; status = st; data_pages = pages_with_bytes s.memory r.data_pages; chain_pages = pages_with_bytes s.memory r.chain_pages })
+    (λ st. record { q = r.q; cid = r.cid; request = asked; status = st; hints = r.hints; data_pages = pages_with_bytes s.memory r.data_pages; chain_pages = pages_with_bytes s.memory r.chain_pages })
     r.status)
     (asked_by r.work)
 

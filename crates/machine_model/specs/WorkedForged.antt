@@ -1,10 +1,11 @@
 -- Worked runs of forged entries, as far as the host's part decides them, and to their ends with the controller's own rings.
-use Rattle.std.specs.Prelude.{ℕ, List, [], ◌∷◌, ◌++◌, map, replicate, false, if◌then◌else◌}
+use Rattle.std.specs.Prelude.{ℕ, List, [], ◌∷◌, ◌++◌, map, replicate, true, false, if◌then◌else◌}
 use Rattle.controller_walk.specs.declared.walk.WalkState.TheVariants.{More, End, Fault}
 use Rattle.admin_commands.specs.declared.SqState.TheVariants.{Absent}
 use Rattle.io_commands.specs.declared.request.{Kind.TheVariants.Read, Piece.TheVariants.Data}
+use Rattle.entry_codec.specs.declared.hints.Hints.{Hints}
 use Rattle.entry_codec.specs.declared.status.TheConstants.Status.{SUCCESS, DATA_TRANSFER_ERROR}
-use Rattle.machine_model.specs.Script.{line, Line, Said, Table, defaults, walks, reserve, build, submit, cancel, ring, fetch, walk, complete, reap, collect, release, delete_sq, retire, forge, ok, reserved, fetched, walked, completed, reaps, held, sent, refused}
+use Rattle.machine_model.specs.Script.{line, Line, Said, Table, defaults, walks, reserve, build, submit, cancel, ring, fetch, walk, complete, reap, collect, release, delete_sq, retire, forge, reset, ok, reserved, fetched, walked, completed, reaps, held, sent, refused}
 use Rattle.machine_model.specs.State.{Controller, ServedQueue, PostedCompletion}
 use Rattle.machine_model.specs.Events as events
 
@@ -56,6 +57,27 @@ identifier_of_a_job_said =
     fetched 0 (2 ∷ []) ∷ fetched 1 (2 ∷ []) ∷ fetched 2 (2 ∷ []) ∷ walked More [] ∷ walked End (4 ∷ []) ∷ walked More [] ∷ walked End (5 ∷ []) ∷ walked More [] ∷ walked End (6 ∷ [])
     ∷ ok ∷ reaps (events.Done 0 SUCCESS) ∷ held SUCCESS ∷ ok ∷ reserved 1 0 (4 ∷ []) [] ∷ ok ∷ ok ∷ ok
     ∷ fetched 0 (2 ∷ 3 ∷ []) ∷ completed (3 ∷ []) ∷ completed (3 ∷ []) ∷ refused events.Full ∷ []
+
+-- a forged entry in phase 1 with status 0:00, and each hint
+abbrev pub forged_hinting : (sqhd sqid cid : ℕ) → List ℕ
+forged_hinting sqhd sqid cid = replicate 8 0 ++ sqhd ∷ 0 ∷ sqid ∷ 0 ∷ cid ∷ 0 ∷ 1 ∷ 0xE0 ∷ []
+
+abbrev pub each_hint : Hints
+each_hint = record { retry_delay = 2; more = true; do_not_retry = true }
+
+-- what the finished commands that are kept were hinted at
+abbrev pub hints_told : Table → List Hints
+hints_told t = map (λ f. f.hints) t.finished
+
+-- a command ended by such an entry, one by the controller, and one by a reset
+abbrev pub ended_by_hinting : List Line
+ended_by_hinting = block 1 ∷ build 1 0 ∷ submit 1 0 ∷ ring 1 ∷ forge 1 0 (forged_hinting 1 1 0) ∷ reap 1 ∷ collect 1 0 ∷ []
+
+abbrev pub ended_by_controller : List Line
+ended_by_controller = block 1 ∷ build 1 0 ∷ submit 1 0 ∷ ring 1 ∷ fetch 1 ∷ walks 2 1 0 ++ complete 1 0 ∷ reap 1 ∷ collect 1 0 ∷ []
+
+abbrev pub ended_by_reset : List Line
+ended_by_reset = block 1 ∷ build 1 0 ∷ submit 1 0 ∷ ring 1 ∷ forge 1 0 (forged_hinting 1 1 0) ∷ reset ∷ collect 1 0 ∷ []
 
 -- a forged success of a deletion: a queue is retired of which the controller still fetches. Up to the fetch, which no rule decides
 abbrev pub two_queues : Table

@@ -4,6 +4,7 @@
 #![tactic(auto, unfolding(page_memory::specs::Pages::zero_page, sgl_descriptor::specs::Spelling::descriptor_of, entry_codec::specs::Submission::submission_bytes, entry_codec::specs::Submission::submission_of, entry_codec::specs::Completion::completion_bytes, entry_codec::specs::Completion::completion_of, controller_walk::specs::Units::moving, controller_walk::specs::Units::from_place, page_memory::specs::Memory::bytes_at))]
 
 ghost use Rattle.std.specs.Prelude.{◌≡◌, [], ◌∷◌, Some, false, true, length};
+ghost use Rattle.entry_codec.specs.declared.hints.TheConstants.Hints.{NONE};
 ghost use Rattle.machine_model.specs.Events as events;
 ghost use Rattle.machine_model.specs.Opening as opens;
 ghost use Rattle.machine_model.specs.Script.{played, left_by, made_by, all_allowed, free_of, build};
@@ -110,6 +111,14 @@ pub fn worked_forged()
     ensures head_held_back { played (left_by ordinary forged.three_submitted) forged.head_held_back ≡ forged.head_held_back_said }
     ensures identifier_of_a_job { played (left_by ordinary forged.three_submitted) forged.identifier_of_a_job ≡ forged.identifier_of_a_job_said }
     ensures forged_deletion { played forged.two_queues forged.forged_deletion ≡ forged.forged_deletion_said }
+{}
+
+/// What a command's completion hinted at is told with it, whoever wrote the completion; the controller hints at nothing, and a
+/// reset neither.
+pub fn worked_hints()
+    ensures forged { forged.hints_told (left_by ordinary forged.ended_by_hinting) ≡ (forged.each_hint ∷ []) }
+    ensures completed { forged.hints_told (left_by ordinary forged.ended_by_controller) ≡ (NONE ∷ []) }
+    ensures reset { forged.hints_told (left_by ordinary forged.ended_by_reset) ≡ (NONE ∷ []) }
 {}
 
 /// A reset: with one command of each phase, a job, and entries that are not fetched; and behind a forged entry, where it makes

@@ -72,7 +72,7 @@ not_completed reply.Accepted why is = refl
 not_completed (reply.Fetched cid touched) why is = refl
 not_completed (reply.Walked state touched) why is = refl
 not_completed (reply.Reaps what) why is = refl
-not_completed (reply.Collected status) why is = refl
+not_completed (reply.Collected status hints) why is = refl
 not_completed (reply.Gathered bytes) why is = refl
 not_completed (reply.Sent cid) why is = refl
 not_completed reply.NoValue why is = refl
@@ -128,7 +128,7 @@ reaped_last q cid t mid new taken r so does is =
 pub carried_on : (t reserved new : Table) (q cid : ℕ) (request : Request) (bytes : Option (List ℕ)) (answer : Reply) (carried : Carried)
     → Does t (step.Reserve q request) answer reserved → Names cid answer → ComesOut reserved q cid bytes carried new → Carries t q request bytes carried new
 carried_on t reserved new q cid request bytes answer (NotReserved why) does named comes = absurd comes
-carried_on t reserved new q cid request bytes answer (Ended status gathered) does named comes =
+carried_on t reserved new q cid request bytes answer (Ended status hints gathered) does named comes =
     record { cid = cid; reserved = reserved; reserves = record { answer = answer; does = does; named = named }; comes = comes }
 carried_on t reserved new q cid request bytes answer (GivenUp why) does named comes =
     record { cid = cid; reserved = reserved; reserves = record { answer = answer; does = does; named = named }; comes = comes }

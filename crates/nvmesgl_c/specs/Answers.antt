@@ -1,7 +1,7 @@
 -- What C is told besides a code.
-use Rattle.std.specs.Prelude.{ℕ, List, [], ◌∷◌, length, min, slice_get, unwrap_or}
+use Rattle.std.specs.Prelude.{ℕ, false, List, [], ◌∷◌, length, min, replicate, slice_get, unwrap_or}
 use Rattle.controller_walk.specs.declared.walk.WalkState.{WalkState}
-use Rattle.entry_codec.specs.declared.status.Status.{Status}
+use Rattle.entry_codec.specs.declared.{hints.Hints.Hints, status.Status.Status}
 use Rattle.machine_model.specs.declared.words.{OpenRefusal.OpenRefusal, Reaped.Reaped, Refusal.Refusal, RejectedFor.RejectedFor}
 use Rattle.nvmesgl_c.specs.declared.words.answer.Answer.{Answer}
 use Rattle.controller_walk.specs.declared.walk.WalkState.TheVariants as walk_state
@@ -26,7 +26,10 @@ nothing =
       sct = 0;
       sc = 0;
       count = 0;
-      reserved = 0 ∷ 0 ∷ 0 ∷ [];
+      retry_delay = 0;
+      more = false;
+      do_not_retry = false;
+      reserved = replicate 9 0;
       tag = 0;
     }
 
@@ -40,6 +43,9 @@ touching pages = record nothing { touched = first_pages pages; touched_count = m
 
 abbrev pub ended : Status → Answer
 ended status = record nothing { sct = status.sct; sc = status.sc }
+
+abbrev pub collected : Status → Hints → Answer
+collected status hints = record (ended status) { retry_delay = hints.retry_delay; more = hints.more; do_not_retry = hints.do_not_retry }
 
 abbrev pub walked : WalkState → List ℕ → Answer
 walked walk_state.More pages = record (touching pages) { state = 1 }

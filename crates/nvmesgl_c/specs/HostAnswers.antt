@@ -1,6 +1,6 @@
 -- What C is told of each reply besides its code.
 use Rattle.std.specs.Prelude.{ℕ, true, false, Option, Some, None, Result, Ok, Err, [], ◌∷◌, length}
-use Rattle.nvmesgl_c.specs.{Answers.{nothing, ended, reaped, refused}, declared.host.answer.CDoorbell.CDoorbell}
+use Rattle.nvmesgl_c.specs.{Answers.{nothing, collected, reaped, refused}, declared.host.answer.CDoorbell.CDoorbell}
 use Rattle.nvmesgl_c.specs.declared.words.answer.Answer.{Answer}
 use Rattle.host_core.specs.declared.doorbell.Doorbell.{Doorbell}
 use Rattle.host_bench.specs.Values.{Reply}
@@ -9,7 +9,7 @@ use Rattle.host_bench.specs.declared.call.Reply.TheVariants as reply
 abbrev pub told_of : Reply → Answer
 told_of (reply.Reserved q cid front back) = record nothing { cid = cid; data_pages = front; chain_pages = back }
 told_of (reply.Reaps what bell) = reaped what
-told_of (reply.Collected status) = ended status
+told_of (reply.Collected status hints) = collected status hints
 told_of (reply.Gathered bytes) = record nothing { bytes = length bytes }
 told_of (reply.Sent cid) = record nothing { cid = cid }
 told_of (reply.Refused why) = refused why []

@@ -15,7 +15,7 @@ found_in r = None
 
 -- the identifier of the command, where it was collected
 abbrev pub collected_in : ℕ → Reply → Option ℕ
-collected_in cid (reply.Collected status) = Some cid
+collected_in cid (reply.Collected status hints) = Some cid
 collected_in cid r = None
 
 -- a reply; of the command that has ended the tag too

@@ -1,5 +1,5 @@
 -- What a poll takes from a queue: completions, one after the other, each with the collection of the command that it ends.
-use Rattle.std.specs.Prelude.{◌≡◌, ◌++◌, ℕ, Bool, true, false, Option, Some, None, Ok, Err, List, [], ◌∷◌, drop, length}
+use Rattle.std.specs.Prelude.{◌≡◌, ◌++◌, ℕ, Bool, true, false, Option, Some, None, Ok, Err, List, [], ◌∷◌, drop, length, replicate}
 use Rattle.host_bench.specs.{Calls.Does, Values.{Reply}}
 use Rattle.host_core.specs.declared.doorbell.Doorbell.{Doorbell}
 use Rattle.slot_table.specs.Rows.{Row}
@@ -18,11 +18,29 @@ is_taken r = false
 
 -- a completion, as C sees it: what was found, and the code of the collection and the tag of the command that it ends
 abbrev pub shown : Answer → ℕ → ℕ → CEnded
-shown found code tag = record { tag = tag; state = found.state; code = code; dw0 = found.dw0; cid = found.cid; sct = found.sct; sc = found.sc; reserved = 0 ∷ 0 ∷ 0 ∷ 0 ∷ [] }
+shown found code tag =
+    record {
+      tag = tag;
+      state = found.state;
+      code = code;
+      dw0 = found.dw0;
+      cid = found.cid;
+      sct = found.sct;
+      sc = found.sc;
+      retry_delay = 0;
+      more = false;
+      do_not_retry = false;
+      reserved = replicate 13 0;
+    }
+
+-- with what the collection of the command tells that was hinted at
+abbrev pub with_hints : Reply → CEnded → CEnded
+with_hints (reply.Collected status hints) entry = record entry { retry_delay = hints.retry_delay; more = hints.more; do_not_retry = hints.do_not_retry }
+with_hints r entry = entry
 
 -- what is made of it: the command of an I/O queue that it ends is collected
 abbrev pub Ends : Table → List (Row ℕ) → ℕ → Reaped → CEnded → Table → Type 0
-Ends t tags q (reaps.Done cid status) entry new = (r : Reply) × Does t (call.Collect q cid) r new × (entry ≡ shown (reaped (reaps.Done cid status)) (code_of_answer r) (tag_at tags q cid))
+Ends t tags q (reaps.Done cid status) entry new = (r : Reply) × Does t (call.Collect q cid) r new × (entry ≡ with_hints r (shown (reaped (reaps.Done cid status)) (code_of_answer r) (tag_at tags q cid)))
 Ends t tags q found entry new = (new ≡ t) × (entry ≡ shown (reaped found) 0 0)
 
 -- a completion is taken

@@ -1,6 +1,6 @@
 -- What C is told of each reply besides its code.
 use Rattle.std.specs.Prelude.{ℕ, Result, Ok, Err, length}
-use Rattle.nvmesgl_c.specs.Answers.{nothing, touching, ended, walked, reaped, refused}
+use Rattle.nvmesgl_c.specs.Answers.{nothing, touching, collected, walked, reaped, refused}
 use Rattle.nvmesgl_c.specs.declared.words.answer.Answer.{Answer}
 use Rattle.step_core.specs.Values.{Reply}
 use Rattle.step_core.specs.declared.step.Reply.TheVariants as reply
@@ -11,7 +11,7 @@ told_of (reply.Fetched cid pages) = record (touching pages) { cid = cid }
 told_of (reply.Walked state pages) = walked state pages
 told_of (reply.Completed pages) = touching pages
 told_of (reply.Reaps what) = reaped what
-told_of (reply.Collected status) = ended status
+told_of (reply.Collected status hints) = collected status hints
 told_of (reply.Gathered bytes) = record nothing { bytes = length bytes }
 told_of (reply.Sent cid) = record nothing { cid = cid }
 told_of (reply.Refused why pages) = refused why pages

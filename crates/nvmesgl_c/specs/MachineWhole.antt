@@ -2,10 +2,10 @@
 use Rattle.std.specs.List.{AllByRecursion}
 use Rattle.std.specs.Prelude.{◌≡◌, ◌⊎◌, ◌++◌, ◌==◌, ◌<◌, ◌≤◌, ℕ, Bool, true, false, Option, Some, None, Result, Ok, Err, List, [], ◌∷◌, drop, length, map}
 use Rattle.io_commands.specs.{Asked.Request, declared.request.Kind.Kind}
-use Rattle.entry_codec.specs.declared.status.Status.{Status}
+use Rattle.entry_codec.specs.declared.{hints.Hints.Hints, status.Status.Status}
 use Rattle.machine_model.specs.Script.{Table}
 use Rattle.step_core.specs.{Bench.{Does, DoesAll}, Values.{Step, Reply}}
-use Rattle.nvmesgl_c.specs.{Answers.{nothing, ended}, MachineAnswers.told_of, MachineCalls.Refuses, MachineCodes.code_of_answer, MachineKept.{Kept, code_in}, MachineServing.Serves, Requests.request_of, declared.words.answer.Answer.Answer}
+use Rattle.nvmesgl_c.specs.{Answers.{nothing, collected}, MachineAnswers.told_of, MachineCalls.Refuses, MachineCodes.code_of_answer, MachineKept.{Kept, code_in}, MachineServing.Serves, Requests.request_of, declared.words.answer.Answer.Answer}
 use Rattle.nvmesgl_c.specs.declared.machine.{carrying.Carried.{Carried, TheVariants.{Ended, NotReserved, GivenUp, Left}}, serve.Served.Served}
 use Rattle.io_commands.specs.declared.request.Kind.TheVariants as kind
 use Rattle.machine_model.specs.declared.words.Reaped.TheVariants as reaps
@@ -32,7 +32,7 @@ is_accepted reply.Accepted = true
 is_accepted r = false
 
 abbrev pub is_collected : Reply → Bool
-is_collected (reply.Collected status) = true
+is_collected (reply.Collected status hints) = true
 is_collected r = false
 
 abbrev pub is_gathered : Reply → Bool
@@ -109,8 +109,8 @@ pub record Runs (t : Table) (q cid : ℕ) (bytes : Option (List ℕ)) (new : Tab
   pub goes : Goes q cid begun new
 
 -- its end was collected, its bytes were gathered, and it was released
-pub record Finishes (t : Table) (q cid : ℕ) (status : Status) (gathered : List ℕ) (new : Table) : Type 0 where
-  pub does : DoesAll t (end_steps q cid) (reply.Collected status ∷ reply.Gathered gathered ∷ reply.Accepted ∷ []) new
+pub record Finishes (t : Table) (q cid : ℕ) (status : Status) (hints : Hints) (gathered : List ℕ) (new : Table) : Type 0 where
+  pub does : DoesAll t (end_steps q cid) (reply.Collected status hints ∷ reply.Gathered gathered ∷ reply.Accepted ∷ []) new
 
 -- it could not be submitted, and was cancelled
 pub record GivesUp (t : Table) (q cid : ℕ) (bytes : Option (List ℕ)) (why : Reply) (new : Table) : Type 0 where
@@ -121,7 +121,7 @@ pub record GivesUp (t : Table) (q cid : ℕ) (bytes : Option (List ℕ)) (why : 
 
 -- how a reserved command came out
 abbrev pub ComesOut : Table → ℕ → ℕ → Option (List ℕ) → Carried → Table → Type 0
-ComesOut t q cid bytes (Ended status gathered) new = (gone : Table) × Runs t q cid bytes gone × Finishes gone q cid status gathered new
+ComesOut t q cid bytes (Ended status hints gathered) new = (gone : Table) × Runs t q cid bytes gone × Finishes gone q cid status hints gathered new
 ComesOut t q cid bytes (NotReserved why) new = ⊥
 ComesOut t q cid bytes (GivenUp why) new = GivesUp t q cid bytes why new
 ComesOut t q cid bytes (Left of why) new = (of ≡ cid) × (gone : Table) × Runs t q cid bytes gone × FirstFails gone (end_steps q cid) why new
@@ -143,13 +143,13 @@ Carries t q request bytes carried new = CarriesOn t q request bytes carried new
 -- What C is told
 
 abbrev pub code_of_carried : Carried → ℕ
-code_of_carried (Ended status gathered) = 0
+code_of_carried (Ended status hints gathered) = 0
 code_of_carried (NotReserved why) = code_of_answer why
 code_of_carried (GivenUp why) = code_of_answer why
 code_of_carried (Left cid why) = code_of_answer why
 
 abbrev pub told_carried : Carried → Answer
-told_carried (Ended status gathered) = record (ended status) { bytes = length gathered }
+told_carried (Ended status hints gathered) = record (collected status hints) { bytes = length gathered }
 told_carried (NotReserved why) = told_of why
 told_carried (GivenUp why) = told_of why
 told_carried (Left cid why) = record nothing { state = 11; cid = cid }
@@ -182,7 +182,7 @@ pub record Sends (t : Kept) (q : ℕ) (kind : Kind) (slba : ℕ) (bytes : List �
 
 -- a Read's bytes at the front of a buffer, where they fit
 abbrev pub LaidOf : Result Carried ℕ → ℕ → List ℕ → List ℕ → Type 0
-LaidOf (Ok (Ended status gathered)) code old new =
+LaidOf (Ok (Ended status hints gathered)) code old new =
     ((length old < length gathered) × (code ≡ 5) × (new ≡ old)) ⊎ ((code ≡ 0) × (new ≡ gathered ++ drop (length gathered) old))
 LaidOf carried code old new = (code ≡ code_of carried) × (new ≡ old)
 

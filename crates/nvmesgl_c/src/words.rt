@@ -25,7 +25,7 @@ mod region;
 mod request;
 mod reserved;
 
-pub use answer::{Answer, ended, nothing, reaped, refused, touching, walked};
+pub use answer::{Answer, collected, ended, nothing, reaped, refused, touching, walked};
 pub use buffers::{CBuffer, CBytes, copy_of, count_of, lay, room_of};
 pub use image::image_for;
 pub use lent::{Lent, LentMemory, MOST_BYTES};

@@ -2,7 +2,7 @@
 //! (`bytes.session`).
 
 use crate::expecting::same;
-use entry_codec::{ComEntry, Status, SubEntry};
+use entry_codec::{ComEntry, Hints, Status, SubEntry};
 
 /// The largest value in each field.
 const LARGEST: SubEntry = SubEntry {
@@ -29,6 +29,11 @@ const LARGEST_COMPLETION: ComEntry = ComEntry {
     cid: 0xFFFF,
     phase: true,
     status: Status { sct: 7, sc: 0xFF },
+    hints: Hints {
+        retry_delay: 3,
+        more: true,
+        do_not_retry: true,
+    },
 };
 
 #[test]
@@ -41,7 +46,7 @@ fn reserved_bits_are_written_as_zero(rt: HostRuntime) {
     ];
     same(&rt, LARGEST.write(), entry);
     let completion = [
-        255, 255, 255, 255, 0, 0, 0, 0, 255, 255, 255, 255, 255, 255, 255, 0x0F,
+        255, 255, 255, 255, 0, 0, 0, 0, 255, 255, 255, 255, 255, 255, 255, 255,
     ];
     same(&rt, LARGEST_COMPLETION.write(), completion);
 }

@@ -1,7 +1,7 @@
 //! Both sides of a queue pair over one store.
 
 use crate::expecting::same;
-use entry_codec::{ComEntry, Status, SubEntry};
+use entry_codec::{ComEntry, Hints, Status, SubEntry};
 use page_memory::{Dma, PageNo, Store, TouchRecord};
 use queue_pair::{DevicePair, HostPair};
 use std::process::Abort;
@@ -31,6 +31,7 @@ const COMPLETION: ComEntry = ComEntry {
     cid: 0,
     phase: true,
     status: Status::SUCCESS,
+    hints: Hints::NONE,
 };
 
 /// The controller hears the tail, takes the entry and posts its completion.

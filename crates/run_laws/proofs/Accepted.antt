@@ -18,7 +18,7 @@ use Rattle.machine_model.specs.Step.{times, zeroed, Permits, Answers, AnswersAny
 use Rattle.machine_model.specs.{Work.Work, declared.words.{HostState.TheVariants.Deleting, Phase.TheVariants.Held, Work.TheVariants.Io}}
 use Rattle.sgl_chain.specs.Chains.{pages_needed}
 use Rattle.controller_walk.specs.{Units.touched, declared.walk.WalkState.TheVariants.More}
-use Rattle.entry_codec.specs.declared.{status.{Status.Status, TheConstants.Status.ABORTED_SQ_DELETION}, submission.SubEntry.SubEntry}
+use Rattle.entry_codec.specs.declared.{hints.Hints.Hints, status.{Status.Status, TheConstants.Status.ABORTED_SQ_DELETION}, submission.SubEntry.SubEntry}
 use Rattle.io_commands.specs.{Asked.Request, Drafts.DraftContents, Requests.{data_count, joined_parts}, Values.FinishedContents}
 use Rattle.two_sides.proofs.Agreed.{IsJudged, host_judged, judged, unjudged, done, new_identifier, walk_allowed, has_unit, opens_in_order, order_kept}
 use Rattle.two_sides.{proofs.{Provided.{all_map, all_append, all_in_both}, Untouched.owned_once}, specs.InOrder.IsInOrder}
@@ -115,13 +115,13 @@ finished_of s r h = go (asked_by r.work) h.is_io r.status h.has_status
     go : (asked : Option Request) → is_some asked ≡ true → (st : Option Status) → is_some st ≡ true
         → (f : FinishedContents) × (option_and_then
         (λ asked. option_map
-        (λ st. record { q = r.q; cid = r.cid; request = asked; status = st; data_pages = pages_with_bytes s.memory r.data_pages; chain_pages = pages_with_bytes s.memory r.chain_pages })
+        (λ st. record { q = r.q; cid = r.cid; request = asked; status = st; hints = r.hints; data_pages = pages_with_bytes s.memory r.data_pages; chain_pages = pages_with_bytes s.memory r.chain_pages })
         st)
         asked ≡ Some f)
     go None a st b = absurd (true≢false (sym a))
     go (Some asked) a None b = absurd (true≢false (sym b))
     go (Some asked) a (Some st) b =
-        (record { q = r.q; cid = r.cid; request = asked; status = st; data_pages = pages_with_bytes s.memory r.data_pages; chain_pages = pages_with_bytes s.memory r.chain_pages }, refl)
+        (record { q = r.q; cid = r.cid; request = asked; status = st; hints = r.hints; data_pages = pages_with_bytes s.memory r.data_pages; chain_pages = pages_with_bytes s.memory r.chain_pages }, refl)
 
 by_collect : (s : State) (q cid : ℕ) → IsReady s → refusal_of s (events.Collect q cid) ≡ None → IsAccepted s (events.Collect q cid)
 by_collect s q cid ready none =
@@ -238,7 +238,7 @@ deleted_other s q queue lives there deleted = grind (arith, eqb-true)
 ended_lost : (q : ℕ) → (q == 0) ≡ false → (rs : List Record) → AllByRecursion (λ r. OwnsFit r.q r.work (pages_of r) × EndedIfHeld r) rs → AllEnded (map (a.lost q) rs)
 ended_lost q other rs h = all_map (λ r. OwnsFit r.q r.work (pages_of r) × EndedIfHeld r) EndedIfHeld (a.lost q) rs (λ r p. each r ((r.q == q) && is_submitted r.phase) refl p) h
   where
-    each : (r : Record) (b : Bool) → ((r.q == q) && is_submitted r.phase) ≡ b → OwnsFit r.q r.work (pages_of r) × EndedIfHeld r → EndedIfHeld (if b then record r { phase = Held; status = Some ABORTED_SQ_DELETION } else r)
+    each : (r : Record) (b : Bool) → ((r.q == q) && is_submitted r.phase) ≡ b → OwnsFit r.q r.work (pages_of r) × EndedIfHeld r → EndedIfHeld (if b then a.aborted r else r)
     each r true at p = λ held. record {
       is_io = io_of r (ap (λ (n : ℕ). n == 0) (eqb-true r.q q (and_parts (r.q == q) (is_submitted r.phase) at).0) ∙ other) r.work p.0;
       has_status = refl;
@@ -262,7 +262,7 @@ host_ended s e reply sound ok c h =
       rings = λ q none. h;
       rests = λ q is. h;
       rejects = λ q why is. h;
-      tells = λ q cid st what e r request t heard w. all_map Fine EndedIfHeld (λ x. if is_at q cid x then a.held st x else x) s.host.records (λ x p. told q cid st x (io_queue q cid r request w heard.found) (is_at q cid x) refl p) (fine s sound h);
+      tells = λ q cid st what e r request t heard w. all_map Fine EndedIfHeld (λ x. if is_at q cid x then a.held st e.hints x else x) s.host.records (λ x p. told q cid st e.hints x (io_queue q cid r request w heard.found) (is_at q cid x) refl p) (fine s sound h);
       hears = λ q cid st what e r adm t heard w quiet unmade. less q cid;
       notes = λ q cid st what e r k t heard w. less q cid;
       frees = λ q cid st what e r k queue t heard w at alone good. less q cid;
@@ -282,12 +282,12 @@ host_ended s e reply sound ok c h =
       resets = all_reset EndedIfHeld EndedIfHeld (λ r io ended. lost_by EndedIfHeld r (λ quiet. ended) (λ sub held. record { is_io = grind arith; has_status = refl })) s.host.records h;
     })
   where
-    told : (q cid : ℕ) (st : Status) (r : Record) → (q == 0) ≡ false → (b : Bool) → is_at q cid r ≡ b → Fine r → EndedIfHeld (if b then a.held st r else r)
-    told q cid st r other true at p = λ held. record {
+    told : (q cid : ℕ) (st : Status) (hints : Hints) (r : Record) → (q == 0) ≡ false → (b : Bool) → is_at q cid r ≡ b → Fine r → EndedIfHeld (if b then a.held st hints r else r)
+    told q cid st hints r other true at p = λ held. record {
       is_io = io_of r (ap (λ (n : ℕ). n == 0) (eqb-true r.q q (and_parts (r.q == q) (r.cid == cid) at).0) ∙ other) r.work p.0;
       has_status = refl;
     }
-    told q cid st r other false at p = p.1
+    told q cid st hints r other false at p = p.1
 
 -- Steps
 

@@ -135,8 +135,8 @@ follow_on d other s e reply g far = record {
   reserves = λ x is on. absurd (true≢false (sym on));
   sends = λ adm id is on. absurd (not_sent d id other is);
   submits = λ x entry r is built found fits p at on. absurd (submit_clash s d e reply g far x r is found at);
-  reaps = λ q cid st request r is n status found w p at on. again (a.held st r) r refl refl refl (p at (sub_goes r.phase (reaped_on s q cid r n found)));
-  loses = λ r within sub free p at on. again (record r { phase = Held; status = Some ABORTED_SQ_DELETION }) r refl refl refl (p at (sub_goes r.phase sub));
+  reaps = λ q cid st entry request r is seen n status found w p at on. again (a.held st entry.hints r) r refl refl refl (p at (sub_goes r.phase (reaped_on s q cid r n found)));
+  loses = λ r within sub free p at on. again (a.aborted r) r refl refl refl (p at (sub_goes r.phase sub));
   collects = λ r p at on. absurd (true≢false (sym on));
 }
   where
@@ -183,7 +183,7 @@ follow_first d s reply g x = record {
   reserves = λ y is on. absurd (true≢false (sym on));
   sends = λ adm id is on. absurd (not_sent d id x.other is);
   submits = λ y entry r is built found fits p at on. again (a.submitted r) r refl refl refl (subst (λ (z : DraftContents). IsOfDraft z r) (sym (drafts_same is)) (submits_of y r fits).0);
-  reaps = λ q cid st request r is n status found w p at on. absurd (cc (is));
+  reaps = λ q cid st entry request r is seen n status found w p at on. absurd (cc (is));
   loses = λ r within sub free only at on. absurd (only_drafted s d x r only at (sub_goes r.phase sub));
   collects = λ r p at on. absurd (true≢false (sym on));
 }
@@ -203,6 +203,7 @@ pub record Collects (s : State) (f : FinishedContents) : Type 0 where
   pub found : record_at s.host f.q f.cid ≡ Some command
   pub work : command.work ≡ Io f.request
   pub status : command.status ≡ Some f.status
+  pub hints : f.hints ≡ command.hints
   pub data_pages : f.data_pages ≡ pages_with_bytes s.memory command.data_pages
   pub chain_pages : f.chain_pages ≡ pages_with_bytes s.memory command.chain_pages
   pub held : is_held command.phase ≡ true
@@ -210,7 +211,7 @@ pub record Collects (s : State) (f : FinishedContents) : Type 0 where
 found_record : (s : State) (q cid : ℕ) (r : Record) (f : FinishedContents) → record_at s.host q cid ≡ Some r → is_held r.phase ≡ true → (w : Work) → r.work ≡ w → (o : Option Status) → r.status ≡ o
     → option_and_then
     (λ asked. option_map
-    (λ st. record { q = r.q; cid = r.cid; request = asked; status = st; data_pages = pages_with_bytes s.memory r.data_pages; chain_pages = pages_with_bytes s.memory r.chain_pages })
+    (λ st. record { q = r.q; cid = r.cid; request = asked; status = st; hints = r.hints; data_pages = pages_with_bytes s.memory r.data_pages; chain_pages = pages_with_bytes s.memory r.chain_pages })
     o)
     (asked_by w) ≡ Some f → Collects s f
 found_record s q cid r f found held (Io request) w (Some v) st e =
@@ -221,6 +222,7 @@ found_record s q cid r f found held (Io request) w (Some v) st e =
       found = subst (λ (n : ℕ). record_at s.host n r.cid ≡ Some r) (sym ids.0) (subst (λ (c : ℕ). record_at s.host q c ≡ Some r) (sym ids.1) found);
       work = w;
       status = st;
+      hints = refl;
       data_pages = refl;
       chain_pages = refl;
       held = held;
@@ -417,7 +419,7 @@ records_on d other s e reply g far h = record {
   reserves = λ x is on. absurd (true≢false (sym on));
   sends = λ adm id is on. absurd (not_sent d id other is);
   submits = λ x entry r is built found fits p at on. absurd (submit_clash s d e reply g far x r is found at);
-  reaps = λ q cid st request r is n status found w p at on. absurd (no_reap s d g.trusted h q cid r n found at);
+  reaps = λ q cid st entry request r is seen n status found w p at on. absurd (no_reap s d g.trusted h q cid r n found at);
   loses = λ r within sub free p at on.
       let x = p at (sub_goes r.phase sub) in (
         (record { work = refl ∙ x.0.work; data_pages = x.0.data_pages ∙ sym refl; chain_pages = x.0.chain_pages ∙ sym refl }),
@@ -448,7 +450,7 @@ unread_first d s g x = record {
     again (a.submitted r) r refl refl refl (subst (λ (z : DraftContents). IsOfDraft z r) (sym (drafts_same is)) (submits_of y r fits).0),
     record { stand = stand entry (ap (λ (z : DraftContents). z.entry) (drafts_same is) ∙ built); deleted = λ held. absurd (true≢false (sym held)) },
   );
-  reaps = λ q cid st request r is n status found w p at on. absurd (cc (is));
+  reaps = λ q cid st entry request r is seen n status found w p at on. absurd (cc (is));
   loses = λ r within sub free only at on. absurd (only_drafted s d x r only at (sub_goes r.phase sub));
   collects = λ r p at on. absurd (true≢false (sym on));
 }

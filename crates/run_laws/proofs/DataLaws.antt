@@ -190,7 +190,7 @@ drafts_move drafts s e reply g = record {
       let ids = ids_of s d.q d.cid r found in
       let its : is_draft r.q r.cid d ≡ true = rw (eq-eqb d.q r.q (sym ids.0), eq-eqb d.cid r.cid (sym ids.1)) refl in
       ap (λ (ds : List DraftContents). is_some (draft_of r.q r.cid (ds ++ drafts))) (submitted_is s e reply g d is) ∙ ap (λ (b : Bool). is_some (if b then Some d else draft_of r.q r.cid drafts)) its;
-  reaps = λ q cid st request r is n status found w p on other. more_drafts r.q r.cid (submitted_by e reply) drafts (p (sub_goes r.phase (reaped_on s q cid r n found)) other);
+  reaps = λ q cid st entry request r is seen n status found w p on other. more_drafts r.q r.cid (submitted_by e reply) drafts (p (sub_goes r.phase (reaped_on s q cid r n found)) other);
   loses = λ r within sub free p on other. more_drafts r.q r.cid (submitted_by e reply) drafts (p (sub_goes r.phase sub) other);
   collects = λ r p on other. absurd (true≢false (sym on));
 }

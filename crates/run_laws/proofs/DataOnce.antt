@@ -342,7 +342,7 @@ chains_move drafts s e reply g = record {
   submits = λ d entry r is built at fits p stands sub.
       subst (λ (x : Event). Going s x reply → CommandStands (a.after s x reply).memory (a.after s x reply).controller.queues (a.after s x reply).controller.jobs (a.submitted r) → ChainedIfIo (submitted_by x reply ++ drafts) (a.after s x reply) (a.submitted r) r.work) (sym is)
       (λ g' stands'. new d reply g' entry r built at fits r.work refl stands') g stands;
-  reaps = λ q cid st request r is n x at w p stands sub. absurd (true≢false (sym sub));
+  reaps = λ q cid st entry request r is seen n x at w p stands sub. absurd (true≢false (sym sub));
   loses = λ r within sent free p stands sub. absurd (true≢false (sym sub));
   collects = λ r p stands sub. absurd (true≢false (sym sub));
 }

@@ -517,7 +517,7 @@ held_host done s e reply ok c trusted stood answers gone h =
       rests = λ q is ok. still (events.Reap q) (events.Reaps Empty) ok;
       rejects = λ q why is ok. still (events.Reap q) (events.Reaps (Rejected why)) ok;
       tells = λ q cid st what e r request t heard w ok.
-          all_with (KnownIn s done) (HeldTold (done ++ made_of s (events.Reap q) (events.Reaps what) ∷ [])) q cid (a.held st) s.host.records r heard.found (stood.grounds.stands.0.once q cid)
+          all_with (KnownIn s done) (HeldTold (done ++ made_of s (events.Reap q) (events.Reaps what) ∷ [])) q cid (a.held st e.hints) s.host.records r heard.found (stood.grounds.stands.0.once q cid)
           (λ x far k. held_stays done s (events.Reap q) (events.Reaps what) ok x k.1)
           (λ k held st' same. inl (subst (CompletedIn (done ++ made_of s (events.Reap q) (events.Reaps what) ∷ []) r.q r.cid) (some_is same)
           (reaped_told done s (events.Reap q) (events.Reaps what) ok trusted stood answers q cid st request r (ap named (sym t.is) ∙ t.names) (ap status_in (sym t.is) ∙ t.status) heard.found w k.1))) h;
@@ -553,7 +553,7 @@ held_host done s e reply ok c trusted stood answers gone h =
         each r false k = k
 
     retired : (q : ℕ) (r : Record) → refusal_of s (events.Retire q) ≡ None → Accepts s (events.Retire q) events.Accepted → KnownIn s done r → (b : Bool) → ((r.q == q) && is_submitted r.phase) ≡ b
-        → HeldTold (done ++ made_of s (events.Retire q) events.Accepted ∷ []) (if b then record r { phase = Held; status = Some ABORTED_SQ_DELETION } else r)
+        → HeldTold (done ++ made_of s (events.Retire q) events.Accepted ∷ []) (if b then a.aborted r else r)
     retired q r none ok k true is = λ held st same.
         let parts = and_parts (r.q == q) (is_submitted r.phase) is in
         inr (inl (subst (WasLost (done ++ made_of s (events.Retire q) events.Accepted ∷ []) r.q r.cid) (some_is same) (lost_told done s stood gone q r none k.0 (eqb-true r.q q parts.0) parts.1)))

@@ -169,7 +169,7 @@ records_known drafts s e reply proper ok stood = record {
   submits = λ d entry r is built at fits known sub.
       subst (λ (x : Event). IsProper x → Accepts s x reply → OfDraftIfIo (submitted_by x reply ++ drafts) (a.after s x reply).memory (a.submitted r) r.work) (sym is)
       (λ pr ac. new d reply pr ac entry r built at fits r.work refl) proper ok;
-  reaps = λ q cid st request r is n x at w known sub. absurd (true≢false (sym sub));
+  reaps = λ q cid st entry request r is seen n x at w known sub. absurd (true≢false (sym sub));
   loses = λ r within held far known sub. absurd (true≢false (sym sub));
   collects = λ r known sub. absurd (true≢false (sym sub));
 }

@@ -6,6 +6,7 @@ pub mod DataKept
 pub mod DataOnce
 pub mod EndsOnce
 pub mod DataLaws
+pub mod Hints
 pub mod Images
 pub mod Walked
 pub mod Accepted

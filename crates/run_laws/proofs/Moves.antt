@@ -5,7 +5,7 @@ use Rattle.std.proofs.Common.{◌≡◌, is_some, ap, ℕ, ◌+◌, ◌==◌, Bo
 use Rattle.std.{proofs.lemmas.Bool.{true≢false, and_parts, cases_Bool}, specs.{List.AllByRecursion, Option.option_map_or}}
 use Rattle.machine_model.proofs.Moves.{host_moves, creates_cq, creates_sq, named, status_in, drafted_record, sent_record}
 use Rattle.machine_model.{proofs.{Owned.{all_reset, lost_by}, Steps.{Accepts, managed_by, part_controller}}, specs.Events.{Event, Reply}}
-use Rattle.machine_model.specs.Refusals.{next_rung, job_at, is_job, fetch_slot, is_submitted, is_drafted, is_of}
+use Rattle.machine_model.specs.Refusals.{next_rung, job_at, is_job, fetch_slot, is_submitted, is_drafted, is_of, seen_entry}
 use Rattle.machine_model.specs.State.{State, Job, ServedQueue, Record, is_at, record_at, without_record}
 use Rattle.machine_model.specs.{Step.{IsController, HostPart, reaped, reaped_entry}}
 use Rattle.machine_model.specs.declared.words.{Phase.TheVariants.{Drafted, Held}, Work.TheVariants.Io}
@@ -15,6 +15,7 @@ use Rattle.controller_walk.specs.Units.{Act}
 use Rattle.sgl_descriptor.specs.declared.Direction.{Direction}
 use Rattle.entry_codec.specs.{Status.is_success, declared.{completion.ComEntry.ComEntry, status.Status.Status}}
 use Rattle.entry_codec.specs.declared.{status.TheConstants.Status.{SUCCESS, ABORT_REQUESTED, ABORTED_SQ_DELETION}, submission.SubEntry.SubEntry}
+use Rattle.entry_codec.specs.declared.hints.TheConstants.Hints.{NONE}
 use Rattle.io_commands.specs.{Asked.Request, Drafts.DraftContents, Jobs.{verdict_of, io_fault, bytes_after_check, direction_of_entry}}
 use Rattle.io_commands.specs.Values.{numbers_of}
 use Rattle.two_sides.proofs.Commands.{Walking, walking}
@@ -260,13 +261,13 @@ takes e r = false
 -- what P says of a record before an event gives Q of it after, however the event changes it
 pub record RecordsMove (P Q : Record → Type 0) (s : State) (e : Event) : Type 0 where
   pub stays : (r : Record) → In r s.host.records → takes e r ≡ false → P r → Q r
-  pub reserves : (d : DraftContents) → Q (record { q = d.q; cid = d.cid; phase = Drafted; work = Io d.request; data_pages = numbers_of d.data_pages; chain_pages = numbers_of d.chain_pages; status = None })
+  pub reserves : (d : DraftContents) → Q (record { q = d.q; cid = d.cid; phase = Drafted; work = Io d.request; data_pages = numbers_of d.data_pages; chain_pages = numbers_of d.chain_pages; status = None; hints = NONE })
   pub sends : (adm : AdminKind) (id : ℕ) → Q (sent_record adm id)
   pub submits : (d : DraftContents) (entry : SubEntry) (r : Record) → e ≡ events.Submit d → d.entry ≡ Some entry → record_at s.host d.q d.cid ≡ Some r
       → is_of is_drafted d.request (numbers_of d.data_pages) (numbers_of d.chain_pages) r ≡ true → P r → Q (a.submitted r)
-  pub reaps : (q cid : ℕ) (st : Status) (request : Request) (r : Record) → e ≡ events.Reap q → named (reaped s q) ≡ Some cid → status_in (reaped s q) ≡ Some st → record_at s.host q cid ≡ Some r → r.work ≡ Io request
-      → P r → Q (a.held st r)
-  pub loses : (r : Record) → In r s.host.records → is_submitted r.phase ≡ true → takes e r ≡ false → P r → Q (record r { phase = Held; status = Some ABORTED_SQ_DELETION })
+  pub reaps : (q cid : ℕ) (st : Status) (entry : ComEntry) (request : Request) (r : Record) → e ≡ events.Reap q → seen_entry s q ≡ Some entry → named (reaped s q) ≡ Some cid → status_in (reaped s q) ≡ Some st → record_at s.host q cid ≡ Some r → r.work ≡ Io request
+      → P r → Q (a.held st entry.hints r)
+  pub loses : (r : Record) → In r s.host.records → is_submitted r.phase ≡ true → takes e r ≡ false → P r → Q (a.aborted r)
   pub collects : (r : Record) → P r → Q (a.collected r)
 
 abbrev Inside : State → (Record → Type 0) → Record → Type 0
@@ -300,8 +301,8 @@ records_event P Q s e reply move ok g h =
             rests = λ q is move. still (events.Reap q) move (λ r. refl);
             rejects = λ q why is move. still (events.Reap q) move (λ r. refl);
             tells = λ q cid st what e r request t heard w move.
-                all_with (Both P Q) Q q cid (a.held st) s.host.records r heard.found (g.stands.0.once q cid) (λ x far p. p.1)
-                (λ p. move.reaps q cid st request r refl (ap named (sym t.is) ∙ t.names) (ap status_in (sym t.is) ∙ t.status) heard.found w p.0) (both (events.Reap q) move (λ r. refl));
+                all_with (Both P Q) Q q cid (a.held st e.hints) s.host.records r heard.found (g.stands.0.once q cid) (λ x far p. p.1)
+                (λ p. move.reaps q cid st e request r refl heard.seen (ap named (sym t.is) ∙ t.names) (ap status_in (sym t.is) ∙ t.status) heard.found w p.0) (both (events.Reap q) move (λ r. refl));
             hears = λ q cid st what e r adm t heard w quiet unmade move. without (events.Reap q) q cid move (λ r. refl);
             notes = λ q cid st what e r k t heard w move. without (events.Reap q) q cid move (λ r. refl);
             frees = λ q cid st what e r k queue t heard w at retired good move. without (events.Reap q) q cid move (λ r. refl);
@@ -324,7 +325,7 @@ records_event P Q s e reply move ok g h =
           }) move
     ]
   where
-    one_lost : (q : ℕ) → RecordsMove P Q s (events.Retire q) → (r : Record) (b : Bool) → ((r.q == q) && is_submitted r.phase) ≡ b → Inside s P r → Q (if b then record r { phase = Held; status = Some ABORTED_SQ_DELETION } else r)
+    one_lost : (q : ℕ) → RecordsMove P Q s (events.Retire q) → (r : Record) (b : Bool) → ((r.q == q) && is_submitted r.phase) ≡ b → Inside s P r → Q (if b then a.aborted r else r)
     one_lost q move r true is p = let parts = and_parts (r.q == q) (is_submitted r.phase) is in move.loses r p.0 parts.1 refl p.1
     one_lost q move r false is p = move.stays r p.0 refl p.1
 

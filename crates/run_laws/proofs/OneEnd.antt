@@ -24,7 +24,7 @@ use Rattle.two_sides.proofs.{JobLaws.not_zero as positive, NeverFull.{stood_on, 
 use Rattle.two_sides.proofs.{Provided.{sent_found, all_of}, Served.{Stood, completions_at}, Standing.seen_trusted}
 use Rattle.two_sides.proofs.TiedAll.{Grounds, ring_in, pair_at}
 use Rattle.admin_commands.specs.{Entries.{admin_entry, named_queue}, declared.{AdminKind.TheVariants.{Abort, DeleteSq, DeleteCq}, SqState.TheVariants.Stopping}}
-use Rattle.entry_codec.specs.{Status.is_success, declared.{completion.ComEntry.ComEntry, status.{Status.Status, TheConstants.Status.ABORTED_SQ_DELETION}}}
+use Rattle.entry_codec.specs.{Status.is_success, declared.{completion.ComEntry.ComEntry, hints.Hints.Hints, status.{Status.Status, TheConstants.Status.ABORTED_SQ_DELETION}}}
 use Rattle.entry_codec.specs.declared.submission.SubEntry.{SubEntry}
 use Rattle.io_commands.specs.{Drafts.DraftContents, Values.FinishedContents}
 use Rattle.page_memory.specs.declared.page.Half.TheVariants.{Submission, Completion}
@@ -427,7 +427,7 @@ phases_turn test l q cid other s e reply ok far = record {
       let mine = and_parts (r.q == q) (r.cid == cid) is in
       let ids = ids_of s d.q d.cid r at in
       absurd (true≢false (sym (submit_at s e d reply q cid ok e' (sym ids.0 ∙ eqb-true r.q q mine.0) (sym ids.1 ∙ eqb-true r.cid cid mine.1)) ∙ far));
-  reaps = λ k c st request r e' n status at w p is.
+  reaps = λ k c st entry request r e' seen n status at w p is.
       let sub = reaped_submitted s k c n in
       absurd (true≢false (sym (sent_in test l r.phase (subst (λ (x : Record). is_submitted x.phase ≡ true) (some_is (sym sub.1 ∙ at)) sub.2)) ∙ p is));
   loses = λ r within sub far p is. absurd (true≢false (sym (sent_in test l r.phase sub) ∙ p is));
@@ -517,12 +517,17 @@ submitted_anew test l q cid other first second between later end at all finds = 
 pub reap_leaves : (s : State) (q cid : ℕ) (st : Status) → Stood s → (q == 0) ≡ false → named (reaped s q) ≡ Some cid → AllByRecursion (NotIn is_submitted q cid) (a.after_reap q (Done cid st) s).host.records
 reap_leaves s q cid st stood other n = elim (option_is (record_at s.host q cid)) [
   | inl at ↦ absurd (cc (sym at ∙ (reaped_submitted s q cid n).1))
-  | inr (r, at) ↦ rw at (of_work r at r.work refl (all-found (λ r. OwnsFit r.q r.work (pages_of r)) (is_at q cid) s.host.records r at stood.grounds.stands.0.admins) (option_map_or (λ e. a.heard q e s) (seen_entry s q) s))
+  | inr (r, at) ↦
+      let owns = all-found (λ r. OwnsFit r.q r.work (pages_of r)) (is_at q cid) s.host.records r at stood.grounds.stands.0.admins in
+      elim (option_is (seen_entry s q)) [
+        | inl none ↦ absurd (cc (sym (ap (λ (o : Option ComEntry). named (option_map_or (reaped_entry s q) o Empty)) none) ∙ n))
+        | inr (e, seen) ↦ rw (at, seen) (of_work r at r.work refl owns e.hints (a.heard q e s))
+      ]
 ]
   where
-    of_work : (r : Record) → record_at s.host q cid ≡ Some r → (w : Work) → r.work ≡ w → OwnsFit r.q w (pages_of r) → (t : State) → AllByRecursion (NotIn is_submitted q cid) (a.after_work w q cid st t).host.records
-    of_work r at (Io request) is fit t = not_with is_submitted q cid (a.held st) (λ x. refl) t.host.records
-    of_work r at (Management adm) is fit t = absurd (true≢false (sym (eq-eqb q 0 (sym (ids_of s q cid r at).0 ∙ fit.0)) ∙ other))
+    of_work : (r : Record) → record_at s.host q cid ≡ Some r → (w : Work) → r.work ≡ w → OwnsFit r.q w (pages_of r) → (hints : Hints) (t : State) → AllByRecursion (NotIn is_submitted q cid) (a.after_work w q cid st hints t).host.records
+    of_work r at (Io request) is fit hints t = not_with is_submitted q cid (a.held st hints) (λ x. refl) t.host.records
+    of_work r at (Management adm) is fit hints t = absurd (true≢false (sym (eq-eqb q 0 (sym (ids_of s q cid r at).0 ∙ fit.0)) ∙ other))
 
 not_refused : {A : Type 0} (why : Refusal) (touched : List ℕ) (reply : Reply) → events.Refused why touched ≡ reply → (refusing reply ≡ false) → A
 not_refused why touched reply e h = absurd (true≢false (ap refusing e ∙ h))
@@ -550,7 +555,7 @@ runs_tell_once image earlier first between second later end q cid st st' run io 
 retire_leaves : (s : State) (q cid : ℕ) → AllByRecursion (NotIn is_submitted q cid) (a.after_retire q s).host.records
 retire_leaves s q cid = subst (AllByRecursion (NotIn is_submitted q cid)) (sym (grind arith)) (lost s.host.records)
   where
-    each : (r : Record) (b c : Bool) → (r.q == q) ≡ b → is_submitted r.phase ≡ c → NotIn is_submitted q cid (if b && c then record r { phase = Held; status = Some ABORTED_SQ_DELETION } else r)
+    each : (r : Record) (b c : Bool) → (r.q == q) ≡ b → is_submitted r.phase ≡ c → NotIn is_submitted q cid (if b && c then a.aborted r else r)
     each r true true its sub at = refl
     each r true false its sub at = sub
     each r false c its sub at = absurd (true≢false (sym (and_parts (r.q == q) (r.cid == cid) at).0 ∙ its))

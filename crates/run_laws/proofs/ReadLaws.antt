@@ -99,7 +99,7 @@ collect_told done s next q cid f step t h = elim (option_is (record_at s.host q 
         (rest_fails (not (record_is (λ r. is_submitted r.phase || is_held r.phase) s q cid)) refusal.Stranger ((record_is (λ r. is_submitted r.phase) s q cid, refusal.NotYet) ∷ []) ok.0)
 
     of_work : (r : Record) → record_at s.host q cid ≡ Some r → is_held r.phase ≡ true → (w : Work) → r.work ≡ w → OwnsFit r.q w (pages_of r)
-        → option_and_then (λ asked. option_map (λ st. record { q = r.q; cid = r.cid; request = asked; status = st; data_pages = pages_with_bytes s.memory r.data_pages; chain_pages = pages_with_bytes s.memory r.chain_pages }) r.status) (asked_by w) ≡ Some f
+        → option_and_then (λ asked. option_map (λ st. record { q = r.q; cid = r.cid; request = asked; status = st; hints = r.hints; data_pages = pages_with_bytes s.memory r.data_pages; chain_pages = pages_with_bytes s.memory r.chain_pages }) r.status) (asked_by w) ≡ Some f
         → CollectTold done q cid f.status
     of_work r at held (Io request) is fit e =
         let ids = ids_of s q cid r at in
@@ -181,7 +181,7 @@ record Found (s : State) (f : FinishedContents) : Type 0 where
 found_record : (s : State) (q cid : ℕ) (r : Record) (f : FinishedContents) → record_at s.host q cid ≡ Some r → is_held r.phase ≡ true → (w : Work) → r.work ≡ w → (o : Option Status) → r.status ≡ o
     → option_and_then
     (λ asked. option_map
-    (λ st. record { q = r.q; cid = r.cid; request = asked; status = st; data_pages = pages_with_bytes s.memory r.data_pages; chain_pages = pages_with_bytes s.memory r.chain_pages })
+    (λ st. record { q = r.q; cid = r.cid; request = asked; status = st; hints = r.hints; data_pages = pages_with_bytes s.memory r.data_pages; chain_pages = pages_with_bytes s.memory r.chain_pages })
     o)
     (asked_by w) ≡ Some f → Found s f
 found_record s q cid r f found held (Io request) w (Some v) st e =

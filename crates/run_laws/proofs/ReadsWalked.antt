@@ -17,7 +17,7 @@ use Rattle.page_memory.specs.Pages.{Pages, page_at, with_bytes, with_page_bytes}
 use Rattle.sgl_descriptor.specs.{Spelling.{spelling, descriptor_of}, Targets.{Target, Place, targets}, declared.Direction.{Direction, TheVariants.Destination}}
 use Rattle.controller_walk.{proofs.Along.{list_moves_along, list_moves_all}, specs.Along.{MovesByte, taken}}
 use Rattle.controller_walk.specs.{Units.{Act, Stays, Reads, Moves, Course, Does, units}, declared.walk.WalkState.WalkState}
-use Rattle.entry_codec.specs.{Status.is_success, declared.{status.{Status.Status, TheConstants.Status.ABORTED_SQ_DELETION}}}
+use Rattle.entry_codec.specs.{Status.is_success, declared.{hints.{Hints.Hints, TheConstants.Hints.NONE}, status.{Status.Status, TheConstants.Status.ABORTED_SQ_DELETION}}}
 use Rattle.entry_codec.specs.declared.submission.SubEntry.{SubEntry}
 use Rattle.io_commands.specs.{Asked.Request, Drafts.DraftContents, Jobs.{need_of_entry, direction_of_entry}, Requests.{parts_of, direction_of}}
 use Rattle.io_commands.specs.{Values.numbers_of, declared.request.Kind.TheVariants.Read}
@@ -371,9 +371,9 @@ reads_move drafts at s e reply x = record {
   submits = λ d entry r is built found fits p stays.
       subst (λ (y : Event). Taken s y reply → ReadIfIo (submitted_by y reply ++ drafts) (fetched_in s y reply at) (a.after s y reply) (a.submitted r) r.work) (sym is)
       (λ z. new d z entry r built found fits r.work refl) x;
-  reaps = λ q cid st request r is n status found w p stays.
-      subst (ReadIfIo (submitted_by e reply ++ drafts) (fetched_in s e reply at) (a.after s e reply) (a.held st r)) (sym w)
-      (λ kind. reap q cid st request r is n status found w p.0 kind (subst (ReadIfIo drafts at s r) w (p.1 (rw (reaped_sub q cid r n found) refl)) kind));
+  reaps = λ q cid st entry request r is seen n status found w p stays.
+      subst (ReadIfIo (submitted_by e reply ++ drafts) (fetched_in s e reply at) (a.after s e reply) (a.held st entry.hints r)) (sym w)
+      (λ kind. reap q cid st entry.hints request r is n status found w p.0 kind (subst (ReadIfIo drafts at s r) w (p.1 (rw (reaped_sub q cid r n found) refl)) kind));
   loses = λ r within sub far p stays. lose r within sub far p.0 r.work refl (p.1 (rw sub refl));
   collects = λ r p stays. absurd (true≢false (sym stays));
 }
@@ -395,10 +395,10 @@ reads_move drafts at s e reply x = record {
         ap (λ (z : Record). is_submitted z.phase) (sym same) ∙ y.2
 
     -- the same record, held
-    hold : (st : Status) (r : Record) (request : Request) → (y : ReadSoFar (submitted_by e reply ++ drafts) (fetched_in s e reply at) (a.after s e reply) r request)
+    hold : (st : Status) (hints : Hints) (r : Record) (request : Request) → (y : ReadSoFar (submitted_by e reply ++ drafts) (fetched_in s e reply at) (a.after s e reply) r request)
         → (is_success st ≡ true → Full (read_targets r request) y.k × InImage (a.after s e reply) request)
-        → ReadSoFar (submitted_by e reply ++ drafts) (fetched_in s e reply at) (a.after s e reply) (a.held st r) request
-    hold st r request y done = record {
+        → ReadSoFar (submitted_by e reply ++ drafts) (fetched_in s e reply at) (a.after s e reply) (a.held st hints r) request
+    hold st hints r request y done = record {
       draft = y.draft;
       latest = y.latest;
       asked = y.asked;
@@ -415,19 +415,19 @@ reads_move drafts at s e reply x = record {
       full = λ held st' is ok. done (ap is_success (some_is is) ∙ ok);
     }
 
-    reap : (q cid : ℕ) (st : Status) (request : Request) (r : Record) → e ≡ events.Reap q → named (reaped s q) ≡ Some cid → status_in (reaped s q) ≡ Some st → record_at s.host q cid ≡ Some r → r.work ≡ Io request → Member s r
-        → request.kind ≡ Read → ReadSoFar drafts at s r request → ReadSoFar (submitted_by e reply ++ drafts) (fetched_in s e reply at) (a.after s e reply) (a.held st r) request
-    reap q cid st request r is n status found w m kind h =
+    reap : (q cid : ℕ) (st : Status) (hints : Hints) (request : Request) (r : Record) → e ≡ events.Reap q → named (reaped s q) ≡ Some cid → status_in (reaped s q) ≡ Some st → record_at s.host q cid ≡ Some r → r.work ≡ Io request → Member s r
+        → request.kind ≡ Read → ReadSoFar drafts at s r request → ReadSoFar (submitted_by e reply ++ drafts) (fetched_in s e reply at) (a.after s e reply) (a.held st hints r) request
+    reap q cid st hints request r is n status found w m kind h =
         let sub = reaped_sub q cid r n found in
         let y = kept s e reply x r request (in_found (is_at q cid) s.host.records r found) m (rw sub refl) (subst (λ (z : Event). takes z r ≡ false) (sym is) refl) w kind drafts at h in
-        hold st r request y.0
+        hold st hints r request y.0
         (λ ok. let f = completed_full s q cid st r request h.k x.trusted n status (ids_of s q cid r found) ok (h.completions sub) in (λ i p target. omega (arith, f.0 i p target, y.1), omega (arith, f.1, x.image)))
 
     lose : (r : Record) → In r s.host.records → is_submitted r.phase ≡ true → takes e r ≡ false → Member s r → (w : Work) → r.work ≡ w → ReadIfIo drafts at s r w
-        → ReadIfIo (submitted_by e reply ++ drafts) (fetched_in s e reply at) (a.after s e reply) (record r { phase = Held; status = Some ABORTED_SQ_DELETION }) w
+        → ReadIfIo (submitted_by e reply ++ drafts) (fetched_in s e reply at) (a.after s e reply) (a.aborted r) w
     lose r within sub far m (Management adm) w h = tt
     lose r within sub far m (Io request) w h = λ kind.
-        hold ABORTED_SQ_DELETION r request (kept s e reply x r request within m (rw sub refl) far w kind drafts at (h kind)).0 (λ ok. absurd (true≢false (sym ok)))
+        hold ABORTED_SQ_DELETION NONE r request (kept s e reply x r request within m (rw sub refl) far w kind drafts at (h kind)).0 (λ ok. absurd (true≢false (sym ok)))
 
 -- Steps
 

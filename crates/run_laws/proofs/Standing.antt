@@ -10,6 +10,7 @@ use Rattle.host_core.specs.Firsts.{without_first, with_first}
 use Rattle.io_commands.specs.{Asked.Request, Values.{FinishedContents, numbers_of}}
 use Rattle.admin_commands.specs.declared.AdminKind.TheVariants.{Abort, DeleteSq, DeleteCq}
 use Rattle.entry_codec.specs.declared.status.{TheConstants.Status.ABORTED_SQ_DELETION}
+use Rattle.entry_codec.specs.declared.hints.TheConstants.Hints.{NONE}
 use Rattle.machine_model.proofs.{HostLeaves.io_left, Moves.{creates_cq, creates_sq, host_moves, sent_record}, Steps.{Accepts, part_left, first_fails, found}}
 use Rattle.machine_model.specs.{Events.{Event, Reply}, Memory.without_pages}
 use Rattle.machine_model.specs.Refusals.{is_submitted, is_drafted, is_held, is_collected, refusal_of, record_is, is_of}
@@ -187,12 +188,12 @@ stands_without test q cid k n rs far (r, at, is) = (r, found_without q cid k n r
 stands_lost : (test : Phase → Bool) → Rests test → (q cid k : ℕ) (rs : List Record) → StandsIn test q cid rs → StandsIn test q cid (map (a.lost k) rs)
 stands_lost test rests q cid k rs (r, at, is) =
     let stays : (b : Bool) → (b && is_submitted r.phase) ≡ false = λ b. grind arith in
-    (r, find_changed (is_at q cid) (a.lost k) (λ x. (grind arith)) rs r at ∙ ap (λ (b : Bool). Some (if b then record r { phase = Held; status = Some ABORTED_SQ_DELETION } else r)) (stays (r.q == k)), is)
+    (r, find_changed (is_at q cid) (a.lost k) (λ x. (grind arith)) rs r at ∙ ap (λ (b : Bool). Some (if b then a.aborted r else r)) (stays (r.q == k)), is)
 
 -- a reset loses what is submitted, and the commands of the admin queue
 stands_reset : (test : Phase → Bool) → Rests test → (q cid : ℕ) (s : State) → StandsIn test q cid s.host.records → StandsIn test q cid (a.reset_records s.host.records)
 stands_reset test rests q cid s (r, at, is) =
-    (r, io_left s q cid r is.request at is.work ∙ ap (λ (b : Bool). Some (if b then record r { phase = Held; status = Some ABORTED_SQ_DELETION } else r)) (unsubmitted test rests r.phase is.phase), is)
+    (r, io_left s q cid r is.request at is.work ∙ ap (λ (b : Bool). Some (if b then a.aborted r else r)) (unsubmitted test rests r.phase is.phase), is)
 
 -- One event
 
@@ -232,13 +233,13 @@ event_stands test rests q cid s e reply far ok c h =
     λ k n r at sub. stands_without test q cid k n s.host.records (apart q cid k n s.host.records h.0 h.1 (sent k n r at sub)) h in
     host_moves (λ (e : Event) (reply : Reply) (t : State). names_by q cid e reply ≡ false → On test q cid t) s e reply ok c
     (record {
-      reserves = λ k request d none is far. more (record { q = d.q; cid = d.cid; phase = Drafted; work = Io d.request; data_pages = numbers_of d.data_pages; chain_pages = numbers_of d.chain_pages; status = None } ∷ []);
+      reserves = λ k request d none is far. more (record { q = d.q; cid = d.cid; phase = Drafted; work = Io d.request; data_pages = numbers_of d.data_pages; chain_pages = numbers_of d.chain_pages; status = None; hints = NONE } ∷ []);
       submits = λ d entry r none built its live far. stands_with test q cid d.q d.cid a.submitted s.host.records (λ x. refl) h (off_name q cid d.q d.cid s.host.records h.0 h.1 far);
       cancels = λ d r its far. stands_without test q cid d.q d.cid s.host.records far h;
       rings = λ k none far. h;
       rests = λ k is far. h;
       rejects = λ k why is far. h;
-      tells = λ k n st what e r request t heard w far. stands_with test q cid k n (a.held st) s.host.records (λ x. refl) h (sent k n r heard.found heard.submitted);
+      tells = λ k n st what e r request t heard w far. stands_with test q cid k n (a.held st e.hints) s.host.records (λ x. refl) h (sent k n r heard.found heard.submitted);
       hears = λ k n st what e r adm t heard w quiet unmade far. without k n r heard.found heard.submitted;
       notes = λ k n st what e r m t heard w far. without k n r heard.found heard.submitted;
       frees = λ k n st what e r m queue t heard w at retired good far. without k n r heard.found heard.submitted;

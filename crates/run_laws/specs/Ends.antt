@@ -1,7 +1,7 @@
 -- How commands end where nothing was forged: what a reap and a collect answer, and where that comes from.
 use Rattle.std.specs.{List.list_any, Option.option_map_or}
 use Rattle.std.specs.Prelude.{◌≡◌, ◌⊎◌, ℕ, ◌==◌, nat_lt, Bool, true, false, ◌&&◌, not, IsTrue, Some, List, [], ◌∷◌, ◌++◌, if◌then◌else◌}
-use Rattle.entry_codec.specs.declared.status.Status.{Status}
+use Rattle.entry_codec.specs.declared.{hints.TheConstants.Hints.NONE, status.Status.Status}
 use Rattle.entry_codec.specs.declared.status.TheConstants.Status.{SUCCESS, ABORT_REQUESTED, ABORTED_SQ_DELETION, INVALID_NAMESPACE, LBA_OUT_OF_RANGE, COMPARE_FAILURE}
 use Rattle.io_commands.specs.Values.{FinishedContents}
 use Rattle.machine_model.specs.{Events.{Event, Reply}, Image.Made, Refusals.{served_queue, conflicts, record_is, is_submitted}, State.{State, PostedCompletion}}
@@ -108,6 +108,12 @@ abbrev pub collects_tell_how_commands_ended : Type 0
 collects_tell_how_commands_ended =
     (image : List ℕ) (earlier later : List Made) (m : Made) (end : State) (q cid : ℕ) (f : FinishedContents) → TrustedRun image (earlier ++ m ∷ later) end
     → m.event ≡ events.Collect q cid → m.reply ≡ events.Collects f → WasCompleted earlier q cid f.status ⊎ WasLost earlier q cid f.status ⊎ WasLostByReset earlier q cid f.status
+
+-- and it tells no hint: the controller gives none
+abbrev pub collects_tell_no_hints : Type 0
+collects_tell_no_hints =
+    (image : List ℕ) (earlier later : List Made) (m : Made) (end : State) (q cid : ℕ) (f : FinishedContents) → TrustedRun image (earlier ++ m ∷ later) end
+    → m.event ≡ events.Collect q cid → m.reply ≡ events.Collects f → f.hints ≡ NONE
 
 -- The six statuses of a command that was collected, each with its cause: it succeeded; an Abort of it, or a deletion of its queue, was
 -- fetched while it was at the controller; it was lost with its queue, or by a reset; its namespace was another than 1; its blocks passed the

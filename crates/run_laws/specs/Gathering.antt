@@ -23,7 +23,7 @@ pub record IsOfSteps (done : List Done) (q cid : ℕ) (c : CollectedCommand) : T
   pub submits : submission.what ≡ step.Submit q cid
   pub draft : draft_of q cid submission.before.drafts ≡ Some c.draft
   pub collects : collection.what ≡ step.Collect q cid
-  pub answers : collection.answer ≡ reply.Collected c.finished.status
+  pub answers : collection.answer ≡ reply.Collected c.finished.status c.finished.hints
   pub made_before : made_by earlier ≡ c.before
   pub made_between : made_by between ≡ c.between
   pub made_later : made_by later ≡ c.later

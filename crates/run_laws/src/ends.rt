@@ -1,6 +1,6 @@
 //! How commands end where nothing was forged. Each function does nothing.
 
-ghost use Rattle.run_laws.specs.Ends.{reaps_answer_the_front, nothing_conflicts, ends_come_from_completions, retired_queues_were_deleted, collects_tell_how_commands_ended, every_collect_has_its_cause, commands_complete_once, ends_are_told_once, commands_are_collected_once, submitted_commands_end_once};
+ghost use Rattle.run_laws.specs.Ends.{reaps_answer_the_front, nothing_conflicts, ends_come_from_completions, retired_queues_were_deleted, collects_tell_how_commands_ended, collects_tell_no_hints, every_collect_has_its_cause, commands_complete_once, ends_are_told_once, commands_are_collected_once, submitted_commands_end_once};
 ghost use Rattle.run_laws.specs.Verdicts.{jobs_stay, verdicts_stay, verdicts_end_walks, first_verdicts_count};
 
 /// Where nothing was forged, a reap answers the oldest completion of its queue, and none where there is none: no completion is rejected.
@@ -35,8 +35,11 @@ pub fn law_of_retirements()
 /// So it has one of six statuses, each with its cause: it succeeded; an Abort of it was fetched while it was a job, or a deletion of its
 /// queue, or the queue was retired or the controller reset under it; its namespace was another than 1; its blocks passed the image's end;
 /// or a Compare found a difference.
+///
+/// And it has no hints.
 pub fn law_of_collects()
     ensures ends { collects_tell_how_commands_ended }
+    ensures hints { collects_tell_no_hints }
     ensures causes { every_collect_has_its_cause }
 {}
 

@@ -299,7 +299,7 @@ fn put_answer(out: &mut String, reply: &Reply) -> Result<(), AllocError>
         Reply::Walked { state, touched } => put_controller_answer(out, *state, touched),
         Reply::Completed { touched } => put_completed(out, touched),
         Reply::Reaps(what) => put_reaped(out, what),
-        Reply::Collected(status) => put_collected(out, *status),
+        Reply::Collected { status, .. } => put_collected(out, *status),
         Reply::Gathered(bytes) => put_gathered(out, bytes.as_slice()),
         Reply::Sent { cid } => put_field(out, "cid ", u64::from(*cid)),
         Reply::NoValue => out.push_str("refused NoValue"),

@@ -34,7 +34,7 @@ pub fn is_well(reply: &Reply) -> bool
     match reply {
         Reply::Walked { state, .. } => is_well_walk(*state),
         Reply::Reaps(what) => is_well_reaped(what),
-        Reply::Collected(status) => status.is_success(),
+        Reply::Collected { status, .. } => status.is_success(),
         Reply::NoValue | Reply::NotFilled(_) | Reply::Refused { .. } => false,
         _ => true,
     }

@@ -2,6 +2,7 @@
 
 ghost use Rattle.std.specs.Prelude.{◌≡◌, [], ◌∷◌, ◌++◌, codes, replicate};
 ghost use Rattle.controller_walk.specs.declared.walk.WalkState.TheVariants as walk;
+ghost use Rattle.entry_codec.specs.declared.hints.TheConstants.Hints.{NONE};
 ghost use Rattle.entry_codec.specs.declared.status.TheConstants.Status.{SUCCESS, ABORT_REQUESTED, LBA_OUT_OF_RANGE, COMPARE_FAILURE};
 ghost use Rattle.io_commands.specs.declared.request.RequestFault.TheVariants as request;
 ghost use Rattle.machine_model.specs.declared.words.Reaped.TheVariants as reaped;
@@ -26,7 +27,7 @@ pub fn first_run_prints()
     ensures line7 { reply_line 7 (OnCommand command.Walk) (reply.Walked walk.End (4 ∷ [])) ≡ fed (codes "7 walk end touched 4") }
     ensures line8 { reply_line 8 (OnCommand command.Complete) (reply.Completed (3 ∷ [])) ≡ fed (codes "8 complete ok touched 3") }
     ensures line9 { reply_line 9 (OnQueue queue.Reap) (reply.Reaps (reaped.Done 0 SUCCESS)) ≡ fed (codes "9 reap done cid 0 status 0:00") }
-    ensures line10 { reply_line 10 (OnCommand command.Collect) (reply.Collected SUCCESS) ≡ fed (codes "10 collect status 0:00") }
+    ensures line10 { reply_line 10 (OnCommand command.Collect) (reply.Collected SUCCESS NONE) ≡ fed (codes "10 collect status 0:00") }
     ensures line12 { owners_text first_owners ≡ all_fed (codes "0-0 queue 0 sq" ∷ codes "1-1 queue 0 cq" ∷ codes "2-2 queue 1 sq" ∷ codes "3-3 queue 1 cq" ∷ codes "4-4 command 1 0 data" ∷ codes "5-15 free" ∷ []) }
     ensures line13 { reply_line 13 (OnCommand command.Release) reply.Accepted ≡ fed (codes "13 release ok") }
     ensures last { counts_line (record { free_pages = 12; queue_pages = 4; chain_pages = 0; data_pages = 0 }) ≡ fed (codes "counts free 12 queue 4 chain 0 data 0") }
@@ -61,6 +62,6 @@ pub fn other_runs_print()
     ensures empty { reply_line 7 (OnQueue queue.Reap) (reply.Reaps reaped.Empty) ≡ fed (codes "7 reap empty") }
     ensures reset { reply_line 7 Reset reply.Accepted ≡ fed (codes "7 reset ok") }
     ensures no_slot { reply_line 8 Forge (reply.Refused refusal.NoSlot []) ≡ fed (codes "8 forge refused NoSlot") }
-    ensures compare { reply_line 9 (OnCommand command.Collect) (reply.Collected COMPARE_FAILURE) ≡ fed (codes "9 collect status 2:85") }
+    ensures compare { reply_line 9 (OnCommand command.Collect) (reply.Collected COMPARE_FAILURE NONE) ≡ fed (codes "9 collect status 2:85") }
     ensures no_value { reply_line 9 (OnCommand command.Build) reply.NoValue ≡ fed (codes "9 build refused NoValue") }
 {}

@@ -174,7 +174,7 @@ impl Hand<'_> {
     /// Collects a command, and answers how it ended. Where it is refused that is said.
     fn collect(&mut self, command: (u16, u16)) -> Result<Option<Status>, AllocError> {
         let reply = self.on_command(CommandVerb::Collect, command)?;
-        if let Reply::Collected(status) = reply {
+        if let Reply::Collected { status, .. } = reply {
             self.tell_on_command(CommandVerb::Collect, command, &reply)?;
             return Ok(Some(status));
         }

@@ -63,7 +63,7 @@ abbrev pub told : events.Reply → Reply
 told (events.Reserved d) = reply.Reserved d.q d.cid (length d.data_pages) (length d.chain_pages)
 told events.Accepted = reply.Accepted
 told (events.Reaps what) = reply.Reaps what
-told (events.Collects f) = reply.Collected f.status
+told (events.Collects f) = reply.Collected f.status f.hints
 told (events.Sent cid) = reply.Sent cid
 told (events.Fetched cid touched) = reply.Fetched cid touched
 told (events.Walked state touched) = reply.Walked state touched

@@ -37,7 +37,7 @@ pub use block_image::{BadLength, Image, ImageError};
 pub use controller_core::ControllerStep;
 pub use controller_walk::WalkState;
 pub use ended::{Ended, Leftover};
-pub use entry_codec::Status;
+pub use entry_codec::{Hints, Status};
 pub use host_core::{Config, QueueMemory, Refused, Right, Run, Runs};
 pub use io_commands::{
     Draft, FillFault, Finished, Flags, Kind, Piece, Pieces, Request, RequestFault, RequestOf,

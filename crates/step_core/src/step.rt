@@ -4,7 +4,7 @@ ghost use Rattle.std.specs.Prelude.{◌≡◌, length};
 
 use crate::refused::Touched;
 use controller_walk::WalkState;
-use entry_codec::Status;
+use entry_codec::{Hints, Status};
 use io_commands::{Draft, FillFault, Request};
 use machine_model::words::{Reaped, Refusal};
 use std::alloc::{Allocator, Global};
@@ -222,8 +222,13 @@ pub enum Reply<B = Bytes> {
     },
     /// What a reap found.
     Reaps(Reaped),
-    /// A command was collected, which ended so.
-    Collected(Status),
+    /// A command was collected.
+    Collected {
+        /// How it ended.
+        status: Status,
+        /// What its completion hinted at.
+        hints: Hints,
+    },
     /// A Read's bytes, and none of a Write or a Compare.
     Gathered(B),
     /// An admin command was sent, under this identifier of queue 0.

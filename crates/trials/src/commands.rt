@@ -48,7 +48,7 @@ fn did<'a>(
         | Reply::Walked { .. }
         | Reply::Completed { .. }
         | Reply::Reaps(_)
-        | Reply::Collected(_)
+        | Reply::Collected { .. }
         | Reply::Gathered(_)
         | Reply::Sent { .. } => Ok(()),
     }

@@ -4,7 +4,7 @@ use crate::answer::Answer;
 use crate::random::SplitMix64;
 use crate::session::{Course, Session};
 use controller_walk::WalkState;
-use entry_codec::{ComEntry, Status};
+use entry_codec::{ComEntry, Hints, Status};
 use machine_model::words::Refusal;
 use std::alloc::AllocError;
 use step_core::{ControllerStep, StepRefused};
@@ -124,8 +124,9 @@ impl Session {
                 sc: random.up_to(255) as u8,
             }
         };
+        let drawn = random.up_to(3);
         let entry = ComEntry {
-            dw0: u32::from(random.up_to(3)),
+            dw0: u32::from(drawn),
             sqhd: if random.in_sixteen(12) {
                 tail
             } else {
@@ -139,6 +140,11 @@ impl Session {
             cid: self.identifier(random, q),
             phase: phase ^ random.in_sixteen(1),
             status,
+            hints: Hints {
+                retry_delay: drawn as u8,
+                more: drawn % 2 == 1,
+                do_not_retry: drawn / 2 == 1,
+            },
         };
         entry.write()
     }

@@ -408,7 +408,7 @@ checked_event s e reply proper ok c h =
       rings = λ q none pr. h;
       rests = λ q is pr. h;
       rejects = λ q why is pr. h;
-      tells = λ q cid st what e r request t heard w pr. with q cid (a.held st) (λ r. refl);
+      tells = λ q cid st what e r request t heard w pr. with q cid (a.held st e.hints) (λ r. refl);
       hears = λ q cid st what e r adm t heard w quiet unmade pr. without q cid;
       notes = λ q cid st what e r k t heard w pr. without q cid;
       frees = λ q cid st what e r k queue t heard w at alone good pr. without q cid;
@@ -442,7 +442,7 @@ checked_event s e reply proper ok c h =
         go r true p = subst IsChecked (sym (same r)) p
         go r false p = p
 
-    lose : (r : Record) (b : Bool) → IsChecked r.work → IsChecked (if b then record r { phase = Held; status = Some ABORTED_SQ_DELETION } else r).work
+    lose : (r : Record) (b : Bool) → IsChecked r.work → IsChecked (if b then a.aborted r else r).work
     lose r true p = p
     lose r false p = p
 

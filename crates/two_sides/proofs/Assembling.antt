@@ -13,7 +13,7 @@ use Rattle.machine_model.specs.Refusals.{refusal_of, is_reaped, seen_entry, in_s
 use Rattle.machine_model.specs.State.{State, Controller, HostQueue, ServedQueue, Record, is_at, pages_of, record_at, with_record}
 use Rattle.machine_model.specs.Step.{Answers, IsController, IsNewIdentifier, Permits, Refuses, touched_by_refusal, Leaves, LeavesByController, LeavesByHost, Step, forges, host_part, times}
 use Rattle.machine_model.specs.declared.words.Refusal.{Refusal}
-use Rattle.two_sides.proofs.{AdminKept.admin_behind, Agreed.{step_keeps_agreement, recovery_kept}, Blind.{out_of, SeesAlike, bare, head_of_entry, left_alike}}
+use Rattle.two_sides.proofs.{AdminKept.admin_behind, Agreed.{step_keeps_agreement, recovery_kept}, Blind.{out_of, SeesAlike, bare, heard_of_entry, left_alike}}
 use Rattle.two_sides.proofs.ControllerMoves.{steps_stay_in_rings}
 use Rattle.two_sides.proofs.Frames.{tied_of, known, Spares, all_stand_still, free_apart_from_queues, one_queue, one_stands, queues_stay, unchanged, walks_after, commands_apart}
 use Rattle.two_sides.proofs.{Places.{seen_alike, told, tails_heard, in_ring, length-unfetched}, Provided.{steps_provide, in_found}, Serving.step_keeps_serving}
@@ -148,14 +148,14 @@ exactly_left s e (events.Refused why touched) host pages t f same = same
 exactly_left s e reply host pages t f same = grind arith
 
 -- the same completion stands at the head for the host and for the machine
-heads_alike : (o p : Option ComEntry) → told o ≡ told p → option_map head_of_entry p ≡ option_map head_of_entry o
+heads_alike : (o p : Option ComEntry) → told o ≡ told p → option_map heard_of_entry p ≡ option_map heard_of_entry o
 heads_alike o p same = grind arith
 
 pub sees_alike : (s : Sides) (e : Event) → IsWorld s → refusal_of (alone s.host s.pages) e ≡ None → SeesAlike (state_of s) (alone s.host s.pages) e
 sees_alike s (events.Reap q) world none = go (slice_get s.host.host.queues q) refl (grind arith)
   where
     go : (o : Option HostQueue) → slice_get s.host.host.queues q ≡ o → option_map_or (λ queue. is_reaped queue.state) (slice_get s.host.host.queues q) false ≡ true
-        → option_map head_of_entry (seen_entry (state_of s) q) ≡ option_map head_of_entry (seen_entry (alone s.host s.pages) q)
+        → option_map heard_of_entry (seen_entry (state_of s) q) ≡ option_map heard_of_entry (seen_entry (alone s.host s.pages) q)
     go None at has = absurd (true≢false (sym has ∙ ap (λ (o : Option HostQueue). option_map_or (λ queue. is_reaped queue.state) o false) at))
     go (Some h) at has =
         heads_alike (seen_entry (alone s.host s.pages) q) (seen_entry (state_of s) q)

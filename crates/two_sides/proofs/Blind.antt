@@ -2,7 +2,9 @@
 use Rattle.std.proofs.Common.{◌≡◌, ℕ, Bool, true, false, not, ◌&&◌, ◌||◌, Option, Some, None, List, [], ◌∷◌, ◌++◌, map, MatchBool, if◌then◌else◌, refl, ap, sym, ◌∙◌, subst, arith, zero}
 use Rattle.std.{proofs.lemmas.Bool.true≢false, specs.Option.{option_map_or, option_map}}
 use Rattle.entry_codec.specs.{Status.is_success, Submission.submission_bytes, declared.{completion.ComEntry.ComEntry, status.Status.Status, submission.SubEntry.SubEntry}}
+use Rattle.entry_codec.specs.declared.hints.{Hints.Hints, TheConstants.Hints.NONE}
 use Rattle.admin_commands.specs.{Entries.admin_entry, declared.AdminKind.{AdminKind, TheVariants.{Abort, DeleteSq, DeleteCq, CreateCq, CreateSq}}}
+use Rattle.page_memory.proofs.Lists.{some_is}
 use Rattle.page_memory.specs.{Pages.{Pages, with_page_bytes}, declared.page.Half.TheVariants.{Submission, Completion}}
 use Rattle.machine_model.specs.{Events.{Event, Reply}, Memory.{with_pages, without_pages}}
 use Rattle.machine_model.specs.Refusals.{host_queue, seen_entry, refusal_of, slot_page, slot_offset, has_cq_alone}
@@ -80,33 +82,42 @@ alike-admin (CreateSq q n base) st s d d' b b' =
     refl (alike-freed (λ queue. queue.sq_pages) a.unmade_sq q s d d' b b')
 alike-admin x st s d d' b b' = refl
 
-alike-work : (w : Work) (q cid : ℕ) (st : Status) (s : State) (d d' : Controller) (b b' : Bool) → Alike b (a.after_work w q cid st (over s d b)) (a.after_work w q cid st (over s d' b'))
-alike-work (Io r) q cid st s d d' b b' = refl
-alike-work (Management adm) q cid st s d d' b b' = alike-admin adm st (a.on_records (without_record q cid) s) d d' b b'
+alike-work : (w : Work) (q cid : ℕ) (st : Status) (hints : Hints) (s : State) (d d' : Controller) (b b' : Bool)
+    → Alike b (a.after_work w q cid st hints (over s d b)) (a.after_work w q cid st hints (over s d' b'))
+alike-work (Io r) q cid st hints s d d' b b' = refl
+alike-work (Management adm) q cid st hints s d d' b b' = alike-admin adm st (a.on_records (without_record q cid) s) d d' b b'
 
-abbrev pub head_of_entry : ComEntry → ℕ
-head_of_entry e = e.sqhd
+-- what a reap tells the host beside its reply
+pub record Heard : Type 0 where
+  pub head : ℕ
+  pub hints : Hints
 
--- of the completion that is reaped only its head tells
-alike-heard : (w : Work) (q cid : ℕ) (st : Status) (s : State) (d d' : Controller) (b b' : Bool) (o o' : Option ComEntry) → option_map head_of_entry o ≡ option_map head_of_entry o'
-    → Alike b (a.after_work w q cid st (option_map_or (λ e. a.heard q e (over s d b)) o (over s d b))) (a.after_work w q cid st (option_map_or (λ e. a.heard q e (over s d' b')) o' (over s d' b')))
-alike-heard w q cid st s d d' b b' None None same = alike-work w q cid st s d d' b b'
+abbrev pub heard_of_entry : ComEntry → Heard
+heard_of_entry e = record { head = e.sqhd; hints = e.hints }
+
+abbrev ends : Work → (q cid : ℕ) → Status → Heard → State → State
+ends w q cid st heard s = a.after_work w q cid st heard.hints (a.on_ring q (knowing heard.head) (a.consumed q s))
+
+-- of the completion that is reaped only that tells
+alike-heard : (w : Work) (q cid : ℕ) (st : Status) (s : State) (d d' : Controller) (b b' : Bool) (o o' : Option ComEntry) → option_map heard_of_entry o ≡ option_map heard_of_entry o'
+    → Alike b (option_map_or (λ e. a.after_work w q cid st e.hints (a.heard q e (over s d b))) o (over s d b)) (option_map_or (λ e. a.after_work w q cid st e.hints (a.heard q e (over s d' b'))) o' (over s d' b'))
+alike-heard w q cid st s d d' b b' None None same = refl
 alike-heard w q cid st s d d' b b' (Some e) (Some e') same =
-    let head : e.sqhd ≡ e'.sqhd = cc in
-    let hears : ℕ → State → State = λ n t. a.on_ring q (knowing n) (a.consumed q t) in
-    subst (λ (n : ℕ). Alike b (a.after_work w q cid st (hears e.sqhd (over s d b))) (a.after_work w q cid st (hears n (over s d' b')))) head
-    (alike-work w q cid st (hears e.sqhd s) (hears e.sqhd (over s d b)).controller (hears e.sqhd (over s d' b')).controller b b')
+    let one : heard_of_entry e ≡ heard_of_entry e' = some_is same in
+    let hears : State → State = λ t. a.on_ring q (knowing e.sqhd) (a.consumed q t) in
+    subst (λ (heard : Heard). Alike b (ends w q cid st (heard_of_entry e) (over s d b)) (ends w q cid st heard (over s d' b'))) one
+    (alike-work w q cid st e.hints (hears s) (hears (over s d b)).controller (hears (over s d' b')).controller b b')
 alike-heard w q cid st s d d' b b' x y same = absurd cc
 
-alike-done : (q cid : ℕ) (st : Status) (s : State) (d d' : Controller) (b b' : Bool) (o o' : Option ComEntry) → option_map head_of_entry o ≡ option_map head_of_entry o'
-    → Alike b (option_map_or (λ r. a.after_work r.work q cid st (option_map_or (λ e. a.heard q e (over s d b)) o (over s d b))) (record_at s.host q cid) (over s d b))
-    (option_map_or (λ r. a.after_work r.work q cid st (option_map_or (λ e. a.heard q e (over s d' b')) o' (over s d' b'))) (record_at s.host q cid) (over s d' b'))
+alike-done : (q cid : ℕ) (st : Status) (s : State) (d d' : Controller) (b b' : Bool) (o o' : Option ComEntry) → option_map heard_of_entry o ≡ option_map heard_of_entry o'
+    → Alike b (option_map_or (λ r. option_map_or (λ e. a.after_work r.work q cid st e.hints (a.heard q e (over s d b))) o (over s d b)) (record_at s.host q cid) (over s d b))
+    (option_map_or (λ r. option_map_or (λ e. a.after_work r.work q cid st e.hints (a.heard q e (over s d' b'))) o' (over s d' b')) (record_at s.host q cid) (over s d' b'))
 alike-done q cid st s d d' b b' o o' same =
-    alike-option b (λ r. a.after_work r.work q cid st (option_map_or (λ e. a.heard q e (over s d b)) o (over s d b)))
-    (λ r. a.after_work r.work q cid st (option_map_or (λ e. a.heard q e (over s d' b')) o' (over s d' b'))) (record_at s.host q cid) (over s d b) (over s d' b') refl
+    alike-option b (λ r. option_map_or (λ e. a.after_work r.work q cid st e.hints (a.heard q e (over s d b))) o (over s d b))
+    (λ r. option_map_or (λ e. a.after_work r.work q cid st e.hints (a.heard q e (over s d' b'))) o' (over s d' b')) (record_at s.host q cid) (over s d b) (over s d' b') refl
     (λ r. alike-heard r.work q cid st s d d' b b' o o' same)
 
-alike-reap : (q : ℕ) (what : Reaped) (s : State) (d d' : Controller) (b b' : Bool) → option_map head_of_entry (seen_entry (over s d b) q) ≡ option_map head_of_entry (seen_entry (over s d' b') q)
+alike-reap : (q : ℕ) (what : Reaped) (s : State) (d d' : Controller) (b b' : Bool) → option_map heard_of_entry (seen_entry (over s d b) q) ≡ option_map heard_of_entry (seen_entry (over s d' b') q)
     → Alike b (a.after_reap q what (over s d b)) (a.after_reap q what (over s d' b'))
 alike-reap q (reaped.Done cid st) s d d' b b' same = alike-done q cid st s d d' b b' (seen_entry (over s d b) q) (seen_entry (over s d' b') q) same
 alike-reap q (reaped.AdminDone cid st dw0) s d d' b b' same = alike-done q cid st s d d' b b' (seen_entry (over s d b) q) (seen_entry (over s d' b') q) same
@@ -114,11 +125,11 @@ alike-reap q what s d d' b b' same = refl
 
 alike-sent : (adm : AdminKind) (id : ℕ) (entry : SubEntry) (s : State) (d d' : Controller) (b b' : Bool) → Alike b (a.sent adm id entry (over s d b)) (a.sent adm id entry (over s d' b'))
 alike-sent adm id entry s d d' b b' =
-    alike-posted 0 entry (a.on_records (λ records. records ++ record { q = 0; cid = id; phase = Submitted; work = Management adm; data_pages = []; chain_pages = []; status = None } ∷ []) s) d d' b b'
+    alike-posted 0 entry (a.on_records (λ records. records ++ record { q = 0; cid = id; phase = Submitted; work = Management adm; data_pages = []; chain_pages = []; status = None; hints = NONE } ∷ []) s) d d' b b'
 
 -- the same stands at the head of the ring that an event reaps
 abbrev pub SeesAlike : State → State → Event → Type 0
-SeesAlike t u (events.Reap q) = option_map head_of_entry (seen_entry t q) ≡ option_map head_of_entry (seen_entry u q)
+SeesAlike t u (events.Reap q) = option_map heard_of_entry (seen_entry t q) ≡ option_map heard_of_entry (seen_entry u q)
 SeesAlike t u e = Unit {0}
 
 alike_after : (s : State) (d d' : Controller) (b b' : Bool) (e : Event) (reply : Reply) → IsController e ≡ false → forges e ≡ false → resets e ≡ false → SeesAlike (over s d b) (over s d' b') e → Answers (over s d' b') e reply

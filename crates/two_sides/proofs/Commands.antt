@@ -11,6 +11,7 @@ use Rattle.page_memory.specs.{Memory.page_of, Pages.{Pages, page_at, byte_at, wi
 use Rattle.admin_commands.specs.{Entries.{named_queue, named_command, admin_entry}, declared.AdminKind.{AdminKind, TheVariants.{Abort, DeleteSq, DeleteCq}}}
 use Rattle.admin_commands.specs.declared.SqState.TheVariants.{Stopping}
 use Rattle.entry_codec.specs.declared.{status.{Status.Status, TheConstants.Status.{ABORT_REQUESTED, ABORTED_SQ_DELETION}}, submission.SubEntry.SubEntry}
+use Rattle.entry_codec.specs.declared.hints.TheConstants.Hints.{NONE}
 use Rattle.io_commands.{proofs.Building.carries_entry, specs.{Asked.Request, Drafts.{io_entry, DraftContents, draft_first, draft_parts, draft_entry}}}
 use Rattle.io_commands.specs.{Jobs.{io_fault, bytes_after_check, direction_of_entry}, Requests.{joined_parts, fault_of, data_count, FitsRequest}}
 use Rattle.io_commands.specs.Values.{numbers_of}
@@ -201,7 +202,7 @@ keeps_nothing qs js q cid entry h = h
 pub commands_reserve : (s : State) (q : ℕ) (r : Request) (d : DraftContents) → IsProper (events.Reserve q r) → Accepts s (events.Reserve q r) (events.Reserved d) → Grounds s → CommandsIn s → CommandsIn (a.after_reserve d s)
 commands_reserve s q r d proper ok g h =
     let good : fault_of r.kind r.blocks r.pieces ≡ None = let e = (unrefused s (events.Reserve q r) ok.0).1.1.0 in grind arith in
-    let new : Record = record { q = d.q; cid = d.cid; phase = Drafted; work = Io d.request; data_pages = numbers_of d.data_pages; chain_pages = numbers_of d.chain_pages; status = None } in
+    let new : Record = record { q = d.q; cid = d.cid; phase = Drafted; work = Io d.request; data_pages = numbers_of d.data_pages; chain_pages = numbers_of d.chain_pages; status = None; hints = NONE } in
     let m = without_pages (numbers_of d.data_pages ++ numbers_of d.chain_pages) s.memory in
     all_append (CommandStands m s.controller.queues s.controller.jobs) s.host.records (new ∷ [])
     (still s m s.controller.queues s.controller.jobs g (λ p some. untouched s (events.Reserve q r) (events.Reserved d) ok refl g p some) (keeps_nothing s.controller.queues s.controller.jobs) h) (
@@ -415,7 +416,7 @@ commands_host s e reply pr ok c w h =
       rests = λ q is pr same. h.commands;
       rejects = λ q why is pr same. commands_consumed q s h.grounds h.commands;
       tells = λ q cid st what e r request t heard w pr same.
-          with_still s.memory (a.consumed q s).controller.queues s.controller.jobs q cid (a.held st) s r heard.found h.grounds (λ x. refl) (λ x. refl) refl (commands_consumed q s h.grounds h.commands);
+          with_still s.memory (a.consumed q s).controller.queues s.controller.jobs q cid (a.held st e.hints) s r heard.found h.grounds (λ x. refl) (λ x. refl) refl (commands_consumed q s h.grounds h.commands);
       hears = λ q cid st what e r adm t heard w quiet unmade pr same. without q cid;
       notes = λ q cid st what e r k t heard w pr same. without q cid;
       frees = λ q cid st what e r k queue t heard w at alone good pr same. without q cid;
@@ -443,8 +444,8 @@ commands_host s e reply pr ok c w h =
     }) pr (same_pages s e reply ok w h.grounds)
   where
     lose : (r : Record) (b : Bool) → CommandStands s.memory s.controller.queues s.controller.jobs r
-        → CommandStands s.memory s.controller.queues s.controller.jobs (if b then record r { phase = Held; status = Some ABORTED_SQ_DELETION } else r)
-    lose r true c = quiet_stands s.memory s.controller.queues s.controller.jobs (λ x. record x { phase = Held; status = Some ABORTED_SQ_DELETION }) (λ x. refl) (λ x. refl) r refl c
+        → CommandStands s.memory s.controller.queues s.controller.jobs (if b then a.aborted r else r)
+    lose r true c = quiet_stands s.memory s.controller.queues s.controller.jobs (λ x. a.aborted x) (λ x. refl) (λ x. refl) r refl c
     lose r false c = c
 
 -- The controller

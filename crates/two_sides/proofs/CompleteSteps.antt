@@ -280,7 +280,7 @@ module _ (s : Sides) (q cid : ℕ) (c : Contents) (pages : Pages) (touched : Lis
     used = there_ring found.host x has
 
     can : CanPostCompletion s q found.host x e
-    can = record { known = queue_known; there = queue_there; served = served_there s world t q cid k found.host w.found found.host_here; room = room.0; typed = w.typed; fits = record { sct = end_fits (block_count s.controller.image) k.q k.units_done s.controller.image k.work found.fits.1 } }
+    can = record { known = queue_known; there = queue_there; served = served_there s world t q cid k found.host w.found found.host_here; room = room.0; typed = w.typed; fits = record { sct = end_fits (block_count s.controller.image) k.q k.units_done s.controller.image k.work found.fits.1; hints = record { retry_delay = omega arith } } }
 
     -- what changes of the machine's queue
     abbrev grown : ServedQueue → ServedQueue

@@ -12,6 +12,7 @@ use Rattle.controller_core.specs.{Posting.{completion_by, memory_posted, page_po
 use Rattle.controller_core.specs.declared.queue.ControllerQueue.{ControllerQueue}
 use Rattle.entry_codec.{proofs.CompletionLemmas.round_trip, specs.Completion.{completion_bytes, FitsCompletion, IsComEntry}}
 use Rattle.entry_codec.specs.declared.{completion.ComEntry.ComEntry, status.Status.Status, submission.SubEntry.SubEntry}
+use Rattle.entry_codec.specs.declared.hints.TheConstants.Hints.{NONE}
 use Rattle.two_sides.proofs.{Agreed.recovery_kept, Assembling.{ends_in_range, sides_served, into}}
 use Rattle.two_sides.proofs.Frames.{SparesQueue, SparesSubmitted, apart_from_queues, halves_apart, own_halves_apart, one_queue, one_stands, IsKnown, queue_ring, controller_at, known, reaped_ring, half_in, half_lies, tied_of, queue_page_in}
 use Rattle.two_sides.proofs.JobLaws.{length-completion_bytes}
@@ -19,7 +20,7 @@ use Rattle.two_sides.proofs.Places.{Shows, map-append, fetch_slot_is, post_slot_
 use Rattle.two_sides.proofs.{Provided.all_append, Shared.length-controller, Untouched.bytes_elsewhere}
 use Rattle.two_sides.specs.Sides.{Sides, posted_completion, completions_between, served_queue_of, present, state_of, served_queues_of}
 use Rattle.two_sides.specs.Stepping.{LeavesPages, completion_slots_are_in, forged, forged_entries_step, served}
-use Rattle.two_sides.specs.Ties.{HeadsFollow, IsWorld, QueueStands, RingsStand, ShareQueue, has_ring, AllQueuesStand, AreTied, AreSides, first_completion_page}
+use Rattle.two_sides.specs.Ties.{HeadsFollow, IsOwned, IsWorld, QueueStands, RingsStand, ShareQueue, has_ring, AllQueuesStand, AreTied, AreSides, first_completion_page}
 use Rattle.page_ledger.specs.Owners.{is_among, pages_from}
 use Rattle.page_memory.{proofs.Bytes.bytes_missing, specs.{Memory.{Memory, written, bytes_at}, Pages.{Pages, IsPool, byte_at, page_at, with_page_bytes}}}
 use Rattle.page_memory.specs.declared.page.Half.TheVariants.{Submission, Completion}
@@ -204,7 +205,7 @@ posted_rings s q cid st dw0 h c world can =
           ∙ sym (tie_kept_by_post n h.ring.head c.controller.ring.tail c.controller.ring.phase (in_ring s q h c can.known).head side.tail (subst (λ (k : ℕ). is_full n k c.controller.ring.tail ≡ false) old.heard can.room));
       phases = subst (λ (m : Memory). HasPhases m (with_posted c).controller) (sym (posted_shown s q h c e world can.known (queue_ring s q h c can.known can.there)))
           (phases_kept (byte_at s.pages) c.controller.cq n c.controller.ring.tail c.controller.ring.phase (completion_bytes e) (length-completion_bytes e) (ap (λ (y : ComEntry). y.phase) (round_trip e can.typed can.fits)) side.tail old.phases);
-      owned = subst (AllByRecursion (λ (y : ComEntry). y.sqid ≡ q)) (sym grown) (all_append (λ (y : ComEntry). y.sqid ≡ q) (completions_between (byte_at s.pages) h.ring c.controller) (e ∷ []) old.owned (refl, tt));
+      owned = subst (AllByRecursion (IsOwned q)) (sym grown) (all_append (IsOwned q) (completions_between (byte_at s.pages) h.ring c.controller) (e ∷ []) old.owned ((refl, refl), tt));
       follow = subst (HeadsFollow n h.ring.known_head c.controller.ring.head) (sym grown)
           (heads_grow n h.ring.known_head c.controller.ring.head e (completions_between (byte_at s.pages) h.ring c.controller) side.head refl old.follow);
       drained = λ x. absurd (true≢false (sym can.served ∙ x));
@@ -223,7 +224,7 @@ posted_stands s q cid st dw0 h c world can =
 posted_as : (u : State) (q cid : ℕ) (st : Status) (dw0 : ℕ) (h : HostQueue) (head tail page : ℕ) (phase : Bool) → host_queue u q ≡ Some h → fetch_slot u q ≡ head → post_slot u q ≡ tail
     → slot_page h.cq_pages 16 tail ≡ page → expected_phase h.ring.head tail h.ring.phase ≡ phase
     → record u {
-      memory = with_page_bytes u.memory page (slot_offset 16 tail) (completion_bytes (record { dw0 = dw0; sqhd = head; sqid = q; cid = cid; phase = phase; status = st }));
+      memory = with_page_bytes u.memory page (slot_offset 16 tail) (completion_bytes (record { dw0 = dw0; sqhd = head; sqid = q; cid = cid; phase = phase; status = st; hints = NONE }));
       controller = record u.controller { queues = change q (λ at. record at { completions = at.completions ++ record { cid = cid; status = st; dw0 = dw0; sq_head = head } ∷ [] }) u.controller.queues };
     }
     ≡ with_posted_completion q cid st dw0 u
@@ -333,7 +334,7 @@ taken_stands s q head h c x follows =
       expected = ap (next_phase c.controller.entries h.ring.head) rings.expected
           ∙ tie_kept_by_advance c.controller.entries h.ring.head c.controller.ring.tail c.controller.ring.phase (head_below s q h c x.known.placed) x.known.placed.share.side.tail x.apart;
       phases = rings.phases;
-      owned = (subst (λ (es : List ComEntry). AllByRecursion (λ e. e.sqid ≡ q) es) x.completion.list rings.owned).1;
+      owned = (subst (λ (es : List ComEntry). AllByRecursion (IsOwned q) es) x.completion.list rings.owned).1;
       follow = follows.heads;
       drained = λ over. absurd (x.apart (rings.drained over));
     }

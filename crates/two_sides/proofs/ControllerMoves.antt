@@ -16,6 +16,7 @@ use Rattle.controller_walk.specs.Units.{Act, Stays, Reads, Moves}
 use Rattle.sgl_descriptor.specs.declared.Direction.{Direction, TheVariants.{Destination, Source}}
 use Rattle.entry_codec.specs.{Completion.completion_bytes, Status.is_success, declared.{admin_opcode.TheConstants.DELETE_IO_SQ, completion.ComEntry.ComEntry}}
 use Rattle.entry_codec.specs.declared.{status.{Status.Status, TheConstants.Status.COMMAND_ID_CONFLICT}, submission.SubEntry.SubEntry}
+use Rattle.entry_codec.specs.declared.hints.TheConstants.Hints.{NONE}
 use Rattle.io_commands.specs.Jobs.{verdict_of, direction_of_entry}
 use Rattle.page_memory.specs.{Pages.{Pages, with_bytes, with_page_bytes}, declared.page.Half.TheVariants.{Submission, Completion}}
 use Rattle.queue_pair.{proofs.Rings.next_below, specs.{Members.change, Memory.half_pages, Rings.{HostRing, fresh_host_ring, next_tail, next_head, knowing}}}
@@ -36,7 +37,7 @@ abbrev pub completed_bytes : ℕ → ℕ → Status → ℕ → State → Pages
 completed_bytes q cid st dw0 s =
     option_map_or
     (λ queue. with_page_bytes s.memory (slot_page queue.cq_pages 16 (post_slot s q)) (slot_offset 16 (post_slot s q))
-    (completion_bytes (record { dw0 = dw0; sqhd = fetch_slot s q; sqid = q; cid = cid; phase = a.post_phase s q queue; status = st }))) (host_queue s q) s.memory
+    (completion_bytes (record { dw0 = dw0; sqhd = fetch_slot s q; sqid = q; cid = cid; phase = a.post_phase s q queue; status = st; hints = NONE }))) (host_queue s q) s.memory
 
 abbrev pub posts_completion : ℕ → ℕ → Status → ℕ → State → State
 posts_completion q cid st dw0 s = a.on_served_queue q (λ at. record at { completions = at.completions ++ posted_completion q cid st dw0 s ∷ [] }) (record s { memory = completed_bytes q cid st dw0 s })

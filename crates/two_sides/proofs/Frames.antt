@@ -12,7 +12,7 @@ use Rattle.two_sides.proofs.{Agreed.stood_of, JobLaws.stay_after, NeverFull.List
 use Rattle.two_sides.proofs.Served.{Stood, job_list, serves_in, course_in, course_ends, counts_sent, page_there}
 use Rattle.two_sides.proofs.Untouched.{among_counts, holds_left as among_left, holds_right as among_right, sent_page}
 use Rattle.two_sides.specs.Sides.{Sides, state_of, served_queue_of, served_queues_of, job_of, present, posted_completion, unfetched_between, completions_between}
-use Rattle.two_sides.specs.Ties.{AreSides, AreTied, IsWorld, ShareQueue, ShareQueues, RingsStand, QueueStands, AllQueuesStand, first_completion_page, has_ring, WalkStands, WalksStand, HeadsFollow, ShareHalves}
+use Rattle.two_sides.specs.Ties.{AreSides, AreTied, IsOwned, IsWorld, ShareQueue, ShareQueues, RingsStand, QueueStands, AllQueuesStand, first_completion_page, has_ring, WalkStands, WalksStand, HeadsFollow, ShareHalves}
 use Rattle.page_ledger.specs.Owners.{is_among, pages_from}
 use Rattle.admin_commands.specs.Verdicts.{is_absent}
 use Rattle.controller_core.specs.{Contents.{FetchedCommand, FitsCommand, FitsWork, Work}, declared.command.Work.TheVariants.{Io, Admin}}
@@ -425,7 +425,7 @@ rings_stay s pages q h c known spares has =
       expected = rings.expected;
       phases = phases_agree (byte_at s.pages) (byte_at pages) c.controller.cq c.controller.entries c.controller.ring.tail c.controller.ring.phase
           (turned (byte_at s.pages) (byte_at pages) c.controller.cq (half_pages c.controller.entries Completion) (completion_agrees s pages q h c known spares has)) rings.phases;
-      owned = subst (λ (es : List ComEntry). AllByRecursion (λ x. x.sqid ≡ q) es) same rings.owned;
+      owned = subst (λ (es : List ComEntry). AllByRecursion (IsOwned q) es) same rings.owned;
       follow = subst (λ (es : List ComEntry). HeadsFollow c.controller.entries h.ring.known_head c.controller.ring.head es) same rings.follow;
       drained = rings.drained;
     }

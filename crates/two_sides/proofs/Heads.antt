@@ -376,16 +376,16 @@ heads_retire q s h = record { ids = ids; behind = λ k x ex open'. at k x open' 
     ids : AllByRecursion (λ (r : Record). r.cid < s.entries - 1) (map (a.lost q) s.host.records)
     ids = all_map (λ (r : Record). r.cid < s.entries - 1) (λ (r : Record). r.cid < s.entries - 1) (a.lost q) s.host.records (λ x low. each x ((x.q == q) && is_submitted x.phase) low) h.ids
       where
-        each : (x : Record) (b : Bool) → x.cid < s.entries - 1 → (if b then record x { phase = Held; status = Some ABORTED_SQ_DELETION } else x).cid < s.entries - 1
+        each : (x : Record) (b : Bool) → x.cid < s.entries - 1 → (if b then a.aborted x else x).cid < s.entries - 1
         each x b low = grind arith
 
     same_sent : (k : ℕ) → (q == k) ≡ false → sent_count k (map (a.lost q) s.host.records) ≡ sent_count k s.host.records
     same_sent k far = total-map (sent k (λ c. 1)) (a.lost q) (λ r. each r ((r.q == q) && is_submitted r.phase) refl) s.host.records
       where
-        each : (r : Record) (b : Bool) → ((r.q == q) && is_submitted r.phase) ≡ b → sent k (λ c. 1) (if b then record r { phase = Held; status = Some ABORTED_SQ_DELETION } else r) ≡ sent k (λ c. 1) r
+        each : (r : Record) (b : Bool) → ((r.q == q) && is_submitted r.phase) ≡ b → sent k (λ c. 1) (if b then a.aborted r else r) ≡ sent k (λ c. 1) r
         each r true e =
             let elsewhere : (r.q == k) ≡ false = ap (λ (n : ℕ). n == k) (eqb-true r.q q (and_parts (r.q == q) (is_submitted r.phase) e).0) ∙ far in
-            sent_not k (λ c. 1) (record r { phase = Held; status = Some ABORTED_SQ_DELETION }) refl ∙ sym (ap (λ (b : Bool). one (b && is_submitted r.phase)) elsewhere)
+            sent_not k (λ c. 1) (a.aborted r) refl ∙ sym (ap (λ (b : Bool). one (b && is_submitted r.phase)) elsewhere)
         each r false e = refl
 
     at : (k : ℕ) (x : HostQueue) → in_service x.state ≡ true → ((q ≡ k) × ((y : HostQueue) × (slice_get s.host.queues k ≡ Some y) × (x ≡ a.retired y))) ⊎ ((q ≡ k → ⊥) × (slice_get s.host.queues k ≡ Some x))
@@ -576,8 +576,8 @@ heads_host s e reply ok c t g h =
       rests = λ q is. h;
       rejects = λ q why is. heads_consumed q s h;
       tells = λ q cid st what e r request told heard w.
-          good q cid st e r heard (with_record q cid (a.held st) s.host.records) (ids_with (s.entries - 1) q cid (a.held st) s.host.records (λ x. refl) h.ids)
-          (λ k. omega (arith, total_with (sent k (λ c. 1)) q cid (a.held st) s.host.records r heard.found (g.stands.0.once q cid), sent_not k (λ c. 1) (a.held st r) refl));
+          good q cid st e r heard (with_record q cid (a.held st e.hints) s.host.records) (ids_with (s.entries - 1) q cid (a.held st e.hints) s.host.records (λ x. refl) h.ids)
+          (λ k. omega (arith, total_with (sent k (λ c. 1)) q cid (a.held st e.hints) s.host.records r heard.found (g.stands.0.once q cid), sent_not k (λ c. 1) (a.held st e.hints r) refl));
       hears = λ q cid st what e r adm told heard w quiet unmade. without q cid st e r heard;
       notes = λ q cid st what e r k told heard w.
           let u = a.heard q e s in

@@ -249,7 +249,7 @@ moves s world tied t =
       rests = λ q is none. record { controller = refl; queues = tied.queues; walks = tied.walks };
       rejects = λ q why is none. let x = consumes s world tied t q why none is in reap_leads s tied q x.0 (found.Rejected why) (view (a.consumed q (state_of s))) (λ e. absurd cc) x.1;
       tells = λ q cid st what e r request told heard w none.
-          let x = hears s world tied t q e none heard.seen in reap_leads s tied q x.0 what (view (a.on_records (with_record q cid (a.held st)) (a.heard q e (state_of s)))) (some_named cid what told.names) x.1;
+          let x = hears s world tied t q e none heard.seen in reap_leads s tied q x.0 what (view (a.on_records (with_record q cid (a.held st e.hints)) (a.heard q e (state_of s)))) (some_named cid what told.names) x.1;
       hears = λ q cid st what e r adm told heard w quiet unmade none.
           let x = hears s world tied t q e none heard.seen in reap_leads s tied q x.0 what (view (heard_without q cid e (state_of s))) (some_named cid what told.names) x.1;
       notes = λ q cid st what e r k told heard w none.

@@ -27,6 +27,7 @@ use Rattle.page_ledger.specs.Owners.{is_among}
 use Rattle.sgl_chain.proofs.{Back.spells_there, Spelled.length-spelling}
 use Rattle.entry_codec.specs.{Completion.completion_bytes, Submission.{submission_bytes, command_words}, declared.completion.ComEntry.ComEntry}
 use Rattle.entry_codec.specs.declared.{status.{Status.Status, TheConstants.Status.COMMAND_ID_CONFLICT}, submission.SubEntry.SubEntry}
+use Rattle.entry_codec.specs.declared.hints.TheConstants.Hints.{NONE}
 use Rattle.two_sides.proofs.{Along.along_proper, Commands.{keeps_fetch, keeps_walk, keeps_complete, Walking, walking, unit_in}}
 use Rattle.two_sides.proofs.ControllerMoves.{linked_from_tied, completed_bytes, unit_memory, finished, cleared, fetch_by, walk_by, complete_by}
 use Rattle.two_sides.proofs.{Ending.{lists_keep, act_touches}, NeverFull.{stood_on, stood_at_opening, ListsStay, stay_untouched, stay_walk}}
@@ -365,10 +366,10 @@ whole-completed q cid st dw0 s whole = go (host_queue s q)
   where
     go : (o : Option HostQueue)
         → AreWhole (option_map_or (λ queue. with_page_bytes s.memory (slot_page queue.cq_pages 16 (post_slot s q)) (slot_offset 16 (post_slot s q))
-        (completion_bytes (record { dw0 = dw0; sqhd = fetch_slot s q; sqid = q; cid = cid; phase = a.post_phase s q queue; status = st }))) o s.memory)
+        (completion_bytes (record { dw0 = dw0; sqhd = fetch_slot s q; sqid = q; cid = cid; phase = a.post_phase s q queue; status = st; hints = NONE }))) o s.memory)
     go None = whole
     go (Some queue) =
-        let entry : ComEntry = record { dw0 = dw0; sqhd = fetch_slot s q; sqid = q; cid = cid; phase = a.post_phase s q queue; status = st } in
+        let entry : ComEntry = record { dw0 = dw0; sqhd = fetch_slot s q; sqid = q; cid = cid; phase = a.post_phase s q queue; status = st; hints = NONE } in
         whole_written s.memory (slot_page queue.cq_pages 16 (post_slot s q)) (slot_offset 16 (post_slot s q)) (completion_bytes entry) (omega (arith, (length-completion_bytes entry))) whole
 
 whole-managed : (e : SubEntry) (s : State) → AreWhole s.memory → AreWhole (a.managed e s).memory

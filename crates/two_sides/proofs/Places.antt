@@ -25,8 +25,9 @@ use Rattle.two_sides.proofs.Frames.{IsKnown, served_at, there_ring, IsPlaced, co
 use Rattle.two_sides.proofs.{PoolBytes.completions_stand, Standing.{admin_zero, admin_completions_rest}, Tied.{deleted_is_gone, freed_is_gone}}
 use Rattle.two_sides.specs.Laws.{tails_are_heard, heads_are_heard}
 use Rattle.two_sides.specs.Sides.{Sides, state_of, posted_completion, completions_between, served_queue_of, present, unfetched_between, job_of, served_queues_of}
-use Rattle.two_sides.specs.{Stepping.completions_are_seen, Ties.{has_ring, IsWorld, RingsStand, AllQueuesStand, QueueStands}}
+use Rattle.two_sides.specs.{Stepping.completions_are_seen, Ties.{has_ring, IsOwned, IsWorld, RingsStand, AllQueuesStand, QueueStands}}
 use Rattle.entry_codec.specs.{Completion.completion_of, Status.is_success, declared.{completion.ComEntry.ComEntry, status.Status.Status}}
+use Rattle.entry_codec.specs.declared.hints.Hints.{Hints}
 use Rattle.block_image.specs.Blocks.{block_count}
 use Rattle.io_commands.specs.Jobs.{JobContents}
 use Rattle.slot_table.proofs.Rows.{option_is}
@@ -221,8 +222,8 @@ pub seen_first : (s : Sides) (q : ℕ) (h : HostQueue) (c : ControllerQueue) →
 seen_first s q h c t e f queue-here a =
     seen_of s q h c true t e f queue-here ∙ ap (λ (xs : List ComEntry). option_map (entry_of q) (front_completion (map posted_completion xs))) a.list
 
-owned_first : (q : ℕ) (e : ComEntry) → e.sqid ≡ q → told (Some e) ≡ told (Some (entry_of q (posted_completion e)))
-owned_first q e own = ap (λ (i : ℕ). Some (record { dw0 = e.dw0; sqhd = e.sqhd; sqid = i; cid = e.cid; phase = true; status = e.status })) own
+owned_first : (q : ℕ) (e : ComEntry) → IsOwned q e → told (Some e) ≡ told (Some (entry_of q (posted_completion e)))
+owned_first q e own = ap₂ (λ (i : ℕ) (hints : Hints). Some (record { dw0 = e.dw0; sqhd = e.sqhd; sqid = i; cid = e.cid; phase = true; status = e.status; hints = hints })) own.0 own.1
 
 -- Both see the same
 
@@ -253,7 +254,7 @@ trusted_alike s world t q h c e f reaped =
 
     queue-here : c.cq_there ≡ true → HasCompletion m h c → told (front (completions_from m c.controller.cq c.controller.entries h.ring.head c.controller.ring.tail)) ≡ told (seen_entry (state_of s) q)
     queue-here cq a =
-        ap told a.front ∙ owned_first q a.entry (subst (λ (xs : List ComEntry). AllByRecursion (λ e. e.sqid ≡ q) xs) a.list rings.owned).0 ∙ sym (ap told (seen_first s q h c t e f cq a))
+        ap told a.front ∙ owned_first q a.entry (subst (λ (xs : List ComEntry). AllByRecursion (IsOwned q) xs) a.list rings.owned).0 ∙ sym (ap told (seen_first s q h c t e f cq a))
 
 pub seen_alike : (s : Sides) → IsWorld s → (q : ℕ) (h : HostQueue) → slice_get s.host.host.queues q ≡ Some h → is_reaped h.state ≡ true
     → told (seen_entry (alone s.host s.pages) q) ≡ told (seen_entry (state_of s) q)

@@ -408,10 +408,10 @@ places_retire q queue s t none e deleted g h = λ k w. elim (cases_Bool (q == k)
     same_sent : (k : ℕ) (w : ℕ → ℕ) → (q == k) ≡ false → total (sent k w) (map (a.lost q) s.host.records) ≡ total (sent k w) s.host.records
     same_sent k w far = total-map (sent k w) (a.lost q) (λ r. each r ((r.q == q) && is_submitted r.phase) refl) s.host.records
       where
-        each : (r : Record) (b : Bool) → ((r.q == q) && is_submitted r.phase) ≡ b → sent k w (if b then record r { phase = Held; status = Some ABORTED_SQ_DELETION } else r) ≡ sent k w r
+        each : (r : Record) (b : Bool) → ((r.q == q) && is_submitted r.phase) ≡ b → sent k w (if b then a.aborted r else r) ≡ sent k w r
         each r true e =
             let elsewhere : (r.q == k) ≡ false = ap (λ (n : ℕ). n == k) (eqb-true r.q q (and_parts (r.q == q) (is_submitted r.phase) e).0) ∙ far in
-            sent_not k w (record r { phase = Held; status = Some ABORTED_SQ_DELETION }) refl ∙ sym (ap (λ (b : Bool). if b && is_submitted r.phase then w r.cid else 0) elsewhere)
+            sent_not k w (a.aborted r) refl ∙ sym (ap (λ (b : Bool). if b && is_submitted r.phase then w r.cid else 0) elsewhere)
         each r false e = refl
 
 -- Every event
@@ -465,8 +465,8 @@ places_host s e reply pr ok c t g h =
       rests = λ q is pr. h;
       rejects = λ q why is pr. places_rejected q s h;
       tells = λ q cid st what e r request told heard w pr.
-          places_heard q cid st e r s (with_record q cid (a.held st) s.host.records) t heard
-          (λ k v. omega (arith, total_with (sent k v) q cid (a.held st) s.host.records r heard.found (g.stands.0.once q cid), sent_not k v (a.held st r) refl)) h;
+          places_heard q cid st e r s (with_record q cid (a.held st e.hints) s.host.records) t heard
+          (λ k v. omega (arith, total_with (sent k v) q cid (a.held st e.hints) s.host.records r heard.found (g.stands.0.once q cid), sent_not k v (a.held st e.hints r) refl)) h;
       hears = λ q cid st what e r adm told heard w quiet unmade pr. without q cid st e r heard;
       notes = λ q cid st what e r k told heard w pr.
           let hs = (a.heard q e s).host.queues in

@@ -16,7 +16,7 @@ use Rattle.host_core.proofs.PageOwners.{among-from}
 use Rattle.two_sides.proofs.Frames.{Spares, SparesQueue, SparesSubmitted, apart_from_queues, halves_apart, one_queue, one_stands, own_halves_apart, queue_stays, rings_stay, stands_still, unchanged, walks_stay, IsKnown, known, queue_ring}
 use Rattle.two_sides.proofs.{Places.in_ring, PoolBytes.{entry_pages, entries_written}, Untouched.bytes_elsewhere}
 use Rattle.two_sides.specs.Sides.{Sides, posted_completion, completions_between, served_queue_of, served_queues_of, present, unfetched_between}
-use Rattle.two_sides.specs.Ties.{AllQueuesStand, HeadsFollow, IsWorld, QueueStands, RingsStand, WalksStand, has_ring, ShareQueue}
+use Rattle.two_sides.specs.Ties.{AllQueuesStand, HeadsFollow, IsOwned, IsWorld, QueueStands, RingsStand, WalksStand, has_ring, ShareQueue}
 use Rattle.page_ledger.specs.Owners.{is_among}
 use Rattle.page_memory.specs.{Memory.written, Pages.{AreWhole, Pages, byte_at, page_at, with_page_bytes}}
 use Rattle.page_memory.specs.declared.page.Half.TheVariants.{Submission, Completion}
@@ -282,7 +282,7 @@ module _ (s : Sides) (mid : Pages) (q : ℕ) (h : HostQueue) (c : ControllerQueu
         heard = stands.heard;
         expected = stands.expected;
         phases = phases_agree (byte_at mid) (byte_at new) c.controller.cq c.controller.entries c.controller.ring.tail c.controller.ring.phase completions_agree stands.phases;
-        owned = subst (λ (xs : List ComEntry). AllByRecursion (λ x. x.sqid ≡ q) xs) (sym completions_stay) stands.owned;
+        owned = subst (λ (xs : List ComEntry). AllByRecursion (IsOwned q) xs) (sym completions_stay) stands.owned;
         follow = subst (λ (xs : List ComEntry). HeadsFollow c.controller.entries h.ring.known_head c.controller.ring.head xs) (sym completions_stay) stands.follow;
         drained = stands.drained;
       }

@@ -235,7 +235,7 @@ names_event s e reply ok c holds h =
       rings = λ q none fit. h;
       rests = λ q is fit. h;
       rejects = λ q why is fit. names_ring s.entries q (next_head s.entries) s.host.queues s.host.records h;
-      tells = λ q cid st what e r request t heard w fit. told q e (with_record q cid (a.held st) s.host.records) (with q cid (a.held st) (λ r' p. p));
+      tells = λ q cid st what e r request t heard w fit. told q e (with_record q cid (a.held st e.hints) s.host.records) (with q cid (a.held st e.hints) (λ r' p. p));
       hears = λ q cid st what e r adm t heard w quiet unmade fit. told q e (without_record q cid s.host.records) (without q cid);
       notes = λ q cid st what e r k t heard w fit.
           names_still s.entries k (λ queue. record queue { state = if is_success st then Deleting true else Live }) (a.heard q e s).host.queues (without_record q cid s.host.records) (λ x. refl) (λ x. refl) (told q e (without_record q cid s.host.records) (without q cid));
@@ -296,7 +296,7 @@ names_event s e reply ok c holds h =
         go r true p = each r p
         go r false p = p
 
-    lose : (r : Record) (b : Bool) → Names s.entries s.host.queues r → Names s.entries s.host.queues (if b then record r { phase = Held; status = Some ABORTED_SQ_DELETION } else r)
+    lose : (r : Record) (b : Bool) → Names s.entries s.host.queues r → Names s.entries s.host.queues (if b then a.aborted r else r)
     lose r true p = p
     lose r false p = p
 
@@ -392,7 +392,7 @@ provided_host s e reply ok c holds h =
       rings = λ q none n. (h.queues, h.commands);
       rests = λ q is n. (h.queues, h.commands);
       rejects = λ q why is n. (queues_ring s.entries q (next_head s.entries) s.host.queues (in_use is_reaped reaped_in_use s q (reaps s q n)) h.queues, h.commands);
-      tells = λ q cid st what e r request t heard w n. (told q e n, with q cid (a.held st) (λ x p. record { identifier = p.identifier; pages = p.pages }));
+      tells = λ q cid st what e r request t heard w n. (told q e n, with q cid (a.held st e.hints) (λ x p. record { identifier = p.identifier; pages = p.pages }));
       hears = λ q cid st what e r adm t heard w quiet unmade n. (told q e n, without q cid);
       notes = λ q cid st what e r k t heard w n. behind q cid e n k (λ queue. record queue { state = if is_success st then Deleting true else Live })
           (λ x ex p. noted s.entries x (is_success st) (asked_as_heard s q cid st e r k holds heard w x ex) p);
@@ -472,7 +472,7 @@ provided_host s e reply ok c holds h =
     still_in_use : (q : ℕ) (f : HostQueue → HostQueue) → (q == 0) ≡ false → (x : HostQueue) → slice_get (change q f s.host.queues) 0 ≡ Some x → is_making x.state ≡ false
     still_in_use q f other x at = admin_in_use s.host.queues holds.admin x (sym (get_other q f s.host.queues 0 (eqb-false q 0 other)) ∙ at)
 
-    lose : (r : Record) (b : Bool) → IsProvided s.entries s.segment r → IsProvided s.entries s.segment (if b then record r { phase = Held; status = Some ABORTED_SQ_DELETION } else r)
+    lose : (r : Record) (b : Bool) → IsProvided s.entries s.segment r → IsProvided s.entries s.segment (if b then a.aborted r else r)
     lose r true p = record { identifier = p.identifier; pages = p.pages }
     lose r false p = p
 

@@ -624,6 +624,7 @@ collected_pages s r f e pages = asks (asked_by r.work) e
       cid = r.cid;
       request = asked;
       status = st;
+      hints = r.hints;
       data_pages = pages_with_bytes s.memory r.data_pages;
       chain_pages = pages_with_bytes s.memory r.chain_pages;
     }

@@ -468,7 +468,7 @@ stands_host s e reply ok c t h =
           placed_change s.host.records s.controller q (λ at. record at { rung = length at.unfetched }) (waiting_same _ (λ at. refl) q s.controller.queues) (admin_completions_same _ (λ at. refl) q s.controller.queues) h.1;
       rests = λ q is. h.1;
       rejects = λ q why is. stands_consumed q s h.1;
-      tells = λ q cid st what e r request told heard w. records_with s.host.records q cid (a.held st) (a.consumed q s).controller (λ r. refl) (λ r. refl) (λ r. refl) (stands_consumed q s h.1);
+      tells = λ q cid st what e r request told heard w. records_with s.host.records q cid (a.held st e.hints) (a.consumed q s).controller (λ r. refl) (λ r. refl) (λ r. refl) (stands_consumed q s h.1);
       hears = λ q cid st what e r adm told heard w quiet unmade. gone q cid st e r adm heard w;
       notes = λ q cid st what e r k told heard w. gone q cid st e r (DeleteSq k) heard w;
       frees = λ q cid st what e r k queue told heard w at alone good. gone q cid st e r (DeleteCq k) heard w;
@@ -485,9 +485,9 @@ stands_host s e reply ok c t h =
       creates_sqs = λ q id first queue none new granted. stands_sent (creates_sq q first s) id (grants_sq q first s) (unused s 0 id new) (record { placed = h.1.placed });
       retires = λ q queue none at deleted.
           records_map s.host.records (a.lost q) s.controller
-          (λ r. (elim ((r.q == q) && is_submitted r.phase) as (λ b. (if b then record r { phase = Held; status = Some ABORTED_SQ_DELETION } else r).q ≡ r.q) [ true ↦ refl | false ↦ refl ]))
-          (λ r. (elim ((r.q == q) && is_submitted r.phase) as (λ b. (if b then record r { phase = Held; status = Some ABORTED_SQ_DELETION } else r).cid ≡ r.cid) [ true ↦ refl | false ↦ refl ]))
-          (λ r. (elim ((r.q == q) && is_submitted r.phase) as (λ b. (if b then record r { phase = Held; status = Some ABORTED_SQ_DELETION } else r).work ≡ r.work) [ true ↦ refl | false ↦ refl ])) h.1;
+          (λ r. (elim ((r.q == q) && is_submitted r.phase) as (λ b. (if b then a.aborted r else r).q ≡ r.q) [ true ↦ refl | false ↦ refl ]))
+          (λ r. (elim ((r.q == q) && is_submitted r.phase) as (λ b. (if b then a.aborted r else r).cid ≡ r.cid) [ true ↦ refl | false ↦ refl ]))
+          (λ r. (elim ((r.q == q) && is_submitted r.phase) as (λ b. (if b then a.aborted r else r).work ≡ r.work) [ true ↦ refl | false ↦ refl ])) h.1;
       forges = λ q slot bytes queue none at. h.1;
       resets = record { placed = rw (no_waiting s.controller.queues, no_admin_completions s.controller.queues) (reset_admin_commands (a.reset_records s.host.records)) };
     })

@@ -506,9 +506,9 @@ keeps_with q cid f same = (
 
 keeps_lost : (q : ℕ) → KeepsKinds (a.lost q)
 keeps_lost q = (
-  (λ r. (elim ((r.q == q) && is_submitted r.phase) as (λ b. (if b then record r { phase = Held; status = Some ABORTED_SQ_DELETION } else r).q ≡ r.q) [ true ↦ refl | false ↦ refl ])),
-  (λ r. (elim ((r.q == q) && is_submitted r.phase) as (λ b. (if b then record r { phase = Held; status = Some ABORTED_SQ_DELETION } else r).cid ≡ r.cid) [ true ↦ refl | false ↦ refl ])),
-  (λ r. (elim ((r.q == q) && is_submitted r.phase) as (λ b. (if b then record r { phase = Held; status = Some ABORTED_SQ_DELETION } else r).work ≡ r.work) [ true ↦ refl | false ↦ refl ])),
+  (λ r. (elim ((r.q == q) && is_submitted r.phase) as (λ b. (if b then a.aborted r else r).q ≡ r.q) [ true ↦ refl | false ↦ refl ])),
+  (λ r. (elim ((r.q == q) && is_submitted r.phase) as (λ b. (if b then a.aborted r else r).cid ≡ r.cid) [ true ↦ refl | false ↦ refl ])),
+  (λ r. (elim ((r.q == q) && is_submitted r.phase) as (λ b. (if b then a.aborted r else r).work ≡ r.work) [ true ↦ refl | false ↦ refl ])),
 )
 
 -- Posting
@@ -649,8 +649,8 @@ tokens_host_event s e reply ok c t few long holds stands left h =
       rests = λ q is left. h;
       rejects = λ q why is left. consumed_tokens rs (a.consumed q s).host.queues q s.controller (tokens_alike rs hs (a.consumed q s).host.queues ds un js ans (alike_ring q (next_head s.entries) hs) h);
       tells = λ q cid st what e r request told heard w left.
-          let rs' = with_record q cid (a.held st) rs in
-          consumed_tokens rs' (a.heard q e s).host.queues q s.controller (tokens_alike rs' hs (a.heard q e s).host.queues ds un js ans (heard_alike q e s) (with q cid (a.held st) ((λ r'. refl), (λ r'. refl), (λ r'. refl))));
+          let rs' = with_record q cid (a.held st e.hints) rs in
+          consumed_tokens rs' (a.heard q e s).host.queues q s.controller (tokens_alike rs' hs (a.heard q e s).host.queues ds un js ans (heard_alike q e s) (with q cid (a.held st e.hints) ((λ r'. refl), (λ r'. refl), (λ r'. refl))));
       hears = λ q cid st what e r adm told heard w quiet unmade left.
           heard_tokens q cid st e r adm s (a.heard q e s).host.queues (admin_zero s q cid r adm holds heard.found w) t heard w (record { placed = left.placed }) (moves_not adm (is_success st) (a.heard q e s).host.queues) h;
       notes = λ q cid st what e r k told heard w left.

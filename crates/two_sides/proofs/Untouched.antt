@@ -26,6 +26,7 @@ use Rattle.two_sides.proofs.{ControllerMoves.{posts_completion, completes_is, fi
 use Rattle.two_sides.proofs.TiedAll.{Grounds, pair_at, ring_in, zero_lives}
 use Rattle.entry_codec.specs.{Completion.completion_bytes, Submission.submission_bytes, declared.status.Status.Status}
 use Rattle.entry_codec.specs.declared.{status.TheConstants.Status.COMMAND_ID_CONFLICT, submission.SubEntry.SubEntry}
+use Rattle.entry_codec.specs.declared.hints.TheConstants.Hints.{NONE}
 use Rattle.slot_table.proofs.Rows.{option_is}
 use Rattle.page_memory.proofs.Lists.{found_is}
 use Rattle.machine_model.proofs.Sound.{small}
@@ -329,7 +330,7 @@ completed_elsewhere q cid st dw0 s p known = go (host_queue s q) refl
   where
     go : (o : Option HostQueue) → host_queue s q ≡ o
         → Same (option_map_or (λ queue. a.on_memory (λ m. with_page_bytes m (slot_page queue.cq_pages 16 (post_slot s q)) (slot_offset 16 (post_slot s q))
-        (completion_bytes (record { dw0 = dw0; sqhd = fetch_slot s q; sqid = q; cid = cid; phase = a.post_phase s q queue; status = st }))) s) o s).memory s p
+        (completion_bytes (record { dw0 = dw0; sqhd = fetch_slot s q; sqid = q; cid = cid; phase = a.post_phase s q queue; status = st; hints = NONE }))) s) o s).memory s p
     go None e = refl
     go (Some queue) e =
         let k = known queue e in

@@ -4,7 +4,7 @@ use Rattle.admin_commands.specs.Verdicts.{is_absent}
 use Rattle.controller_core.specs.{Contents.{FetchedCommand, IsController, Work}, declared.command.Work.TheVariants.{Io, Admin}}
 use Rattle.controller_core.specs.declared.queue.ControllerQueue.{ControllerQueue}
 use Rattle.controller_walk.specs.{Laws.after_units, Units.course_of_list}
-use Rattle.entry_codec.specs.declared.completion.ComEntry.{ComEntry}
+use Rattle.entry_codec.specs.declared.{completion.ComEntry.ComEntry, hints.TheConstants.Hints.NONE}
 use Rattle.host_core.specs.Alone.{IsOver, IsSoundHost, alone}
 use Rattle.io_commands.specs.Jobs.{job_course, direction_of_entry, need_of_entry}
 use Rattle.machine_model.specs.{Agreeing.SidesAgree, Always.IsHostProvided, Claims.IsSound, Memory.memory_of, Refusals.{in_service, is_making_cq, is_reaped}}
@@ -63,6 +63,10 @@ pub record ShareHalves (n : ℕ) (h : HostQueue) (c : ControllerQueue) : Type 0 
   pub submission : is_absent c.state ≡ false → h.sq_pages ≡ pages_from c.controller.sq (half_pages n Submission)
   pub completion : has_ring h c ≡ true → h.cq_pages ≡ pages_from c.controller.cq (half_pages n Completion)
 
+-- A completion that the controller posted in queue q: it names the queue, and hints at nothing.
+abbrev pub IsOwned : ℕ → ComEntry → Type 0
+IsOwned q e = (e.sqid ≡ q) × (e.hints ≡ NONE)
+
 -- The rings of queue q stand: what was posted, rung and taken on either side fits.
 pub record RingsStand (m : Memory) (q : ℕ) (h : HostQueue) (c : ControllerQueue) : Type 0 where
   pub fetched : is_in_range c.controller.entries h.ring.known_head h.ring.tail c.controller.ring.head ≡ true
@@ -70,7 +74,7 @@ pub record RingsStand (m : Memory) (q : ℕ) (h : HostQueue) (c : ControllerQueu
   pub heard : c.controller.ring.known_head ≡ h.ring.head
   pub expected : h.ring.phase ≡ expected_phase h.ring.head c.controller.ring.tail c.controller.ring.phase
   pub phases : HasPhases m c.controller
-  pub owned : AllByRecursion (λ e. e.sqid ≡ q) (completions_between m h.ring c.controller)
+  pub owned : AllByRecursion (IsOwned q) (completions_between m h.ring c.controller)
   pub follow : HeadsFollow c.controller.entries h.ring.known_head c.controller.ring.head (completions_between m h.ring c.controller)
   -- nothing waits in the completion ring of a queue that is out of service
   pub drained : in_service h.state ≡ false → h.ring.head ≡ c.controller.ring.tail

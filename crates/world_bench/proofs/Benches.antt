@@ -7,7 +7,7 @@ use Rattle.step_core.specs.declared.step.Reply.TheVariants as reply
 use Rattle.step_core.specs.declared.step.Step.TheVariants as step
 use Rattle.std.proofs.Common.{◌≡◌, ℕ, Option, Some, List, [], ◌∷◌, ◌++◌, length, ◌==◌, ◌&&◌, refl, ap, ap₂, sym, ◌∙◌, subst, ◌+◌}
 use Rattle.std.{proofs.lemmas.List.{Elements.filter_map-append}, specs.{Option.option_and_then}}
-use Rattle.entry_codec.specs.declared.status.Status.{Status}
+use Rattle.entry_codec.specs.declared.{hints.Hints.Hints, status.Status.Status}
 use Rattle.io_commands.specs.{Asked.Request, Drafts.{DraftContents, built}, Values.{FinishedContents, TicketContents, gathered_from}}
 use Rattle.machine_model.specs.{Image.{draft_of, is_draft}, Script.{Table, finished_at, is_ticket, filled_draft, is_finished}, State.State}
 use Rattle.machine_model.specs.declared.words.Refusal.{Refusal}
@@ -162,13 +162,13 @@ module _ {A : Type 0} where
         → (table_with world new).finished ≡ (table_with s old).finished ++ f ∷ []
     collected_last world f new left = ap (λ (v : Values A). (table_with world v).finished) (put_next old mid q cid (value.Ticket ticket) out (value.Finished f) new left) ∙ last_finished f
 
-    pub collects : (world : State) (f : FinishedContents) (status : Status) (new : Values A) → machine.Step s (events.Collect ticket.q ticket.cid) (events.Collects f) world → status ≡ f.status
+    pub collects : (world : State) (f : FinishedContents) (status : Status) (hints : Hints) (new : Values A) → machine.Step s (events.Collect ticket.q ticket.cid) (events.Collects f) world → status ≡ f.status → hints ≡ f.hints
         → new ≡ with_row (record mid { rows = without mid.rows q cid }) q cid (Some (value.Finished f))
-        → Does (table_with s old) (step.Collect q cid) (reply.Collected status) (table_with world new) × IsBench world new
-    collects world f status new step ends left = (
+        → Does (table_with s old) (step.Collect q cid) (reply.Collected status hints) (table_with world new) × IsBench world new
+    collects world f status hints new step ends hinted left = (
       rw (found_ticket s old mid q cid ticket b out) (record {
         reply = events.Collects f;
-        tells = ap reply.Collected ends;
+        tells = ap₂ reply.Collected ends hinted;
         step = by_name s old mid q cid ticket b out (events.Collects f) world step;
         keeps = ap (table_with world) (put_next old mid q cid (value.Ticket ticket) out (value.Finished f) new left) ∙ tables_same world _ _ _ _ _ _ drafts tickets (last_finished f);
       }),

@@ -3,7 +3,7 @@
 ghost use Rattle.std.specs.Prelude.{◌≡◌};
 ghost use Rattle.nvmesgl_c.specs.HostAnswers as answers;
 
-use crate::words::{Answer, ended, nothing, reaped, refused};
+use crate::words::{Answer, collected, nothing, reaped, refused};
 use host_bench::{Doorbell, Reply};
 
 /// A value for a doorbell register, where there is one.
@@ -37,7 +37,7 @@ pub(crate) fn told_of(reply: &Reply) -> Answer
             ..nothing()
         },
         Reply::Reaps { found, bell: _ } => reaped(*found),
-        Reply::Collected(status) => ended(*status),
+        Reply::Collected { status, hints } => collected(*status, *hints),
         Reply::Gathered(bytes) => Answer {
             bytes: bytes.as_slice().len(),
             ..nothing()

@@ -32,7 +32,7 @@ fn collected_in(cid: u16, reply: &Reply) -> Option<u16>
     ensures { result ≡ ending.collected_in cid reply.now }
 {
     match reply {
-        Reply::Collected(_) => Some(cid),
+        Reply::Collected { .. } => Some(cid),
         _ => None,
     }
 }
@@ -71,7 +71,7 @@ pub extern "C" fn nvmehost_reap(
     code_of_answer(&reply)
 }
 
-/// Collects a command that has ended. Its status and its tag are told.
+/// Collects a command that has ended. Its status, what was hinted at and its tag are told.
 #[unsafe(no_mangle)]
 pub extern "C" fn nvmehost_collect(
     alloc: Global,

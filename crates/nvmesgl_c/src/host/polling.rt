@@ -34,8 +34,14 @@ pub struct CEnded {
     pub sct: u8,
     /// The status code.
     pub sc: u8,
+    /// The retry delay that was hinted at of a command of an I/O queue that was collected.
+    pub retry_delay: u8,
+    /// Whether there is more on it in the controller's log.
+    pub more: bool,
+    /// Whether it is expected to fail again.
+    pub do_not_retry: bool,
     /// Zeros.
-    pub reserved: [u32; 4],
+    pub reserved: [u8; 13],
 }
 
 /// How a poll went.
@@ -61,7 +67,25 @@ fn shown(found: Answer, code: u32, tag: u64) -> CEnded
         cid: found.cid,
         sct: found.sct,
         sc: found.sc,
-        reserved: [0; 4],
+        retry_delay: 0,
+        more: false,
+        do_not_retry: false,
+        reserved: [0; 13],
+    }
+}
+
+/// A completion with what the collection of its command tells that was hinted at.
+fn with_hints(collected: &Reply, entry: CEnded) -> CEnded
+    ensures { result ≡ polling.with_hints collected.now entry }
+{
+    match collected {
+        Reply::Collected { status: _, hints } => CEnded {
+            retry_delay: hints.retry_delay,
+            more: hints.more,
+            do_not_retry: hints.do_not_retry,
+            ..entry
+        },
+        _ => entry,
     }
 }
 
@@ -84,7 +108,8 @@ fn end(kept: &mut Tagged, q: u16, found: Reaped) -> CEnded
         Reaped::Done { cid, status: _ } => {
             let collected = kept.bench.call(Call::Collect { q, cid });
             let tag = tag_of(&kept.tags, q, cid);
-            shown(reaped(found), code_of_answer(&collected), tag)
+            let entry = shown(reaped(found), code_of_answer(&collected), tag);
+            with_hints(&collected, entry)
         }
         _ => shown(reaped(found), DONE, 0),
     }

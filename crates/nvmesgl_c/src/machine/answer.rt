@@ -3,7 +3,7 @@
 ghost use Rattle.std.specs.Prelude.{◌≡◌};
 ghost use Rattle.nvmesgl_c.specs.MachineAnswers as answers;
 
-use crate::words::{Answer, ended, nothing, reaped, refused, touching, walked};
+use crate::words::{Answer, collected, nothing, reaped, refused, touching, walked};
 use step_core::Reply;
 
 /// What a reply tells.
@@ -29,7 +29,7 @@ pub(crate) fn told_of(reply: &Reply) -> Answer
         Reply::Walked { state, touched } => walked(*state, touched.pages()),
         Reply::Completed { touched } => touching(touched.pages()),
         Reply::Reaps(what) => reaped(*what),
-        Reply::Collected(status) => ended(*status),
+        Reply::Collected { status, hints } => collected(*status, *hints),
         Reply::Gathered(bytes) => Answer {
             bytes: bytes.as_slice().len(),
             ..nothing()

@@ -8,7 +8,7 @@ ghost use Rattle.step_core.specs.declared.step.Reply.TheVariants as reply;
 use crate::machine::desk::Desk;
 use crate::machine::serve::serve;
 use machine_model::words::Reaped;
-use step_core::{Bytes, Reply, Request, Status, Step};
+use step_core::{Bytes, Hints, Reply, Request, Status, Step};
 
 /// The most completions that are reaped for a command: as many as a ring has.
 const MOST_REAPS: u32 = 1_024;
@@ -20,6 +20,8 @@ pub enum Carried {
     Ended {
         /// Its status.
         status: Status,
+        /// What was hinted at.
+        hints: Hints,
         /// What a Read brought.
         bytes: Bytes,
     },
@@ -43,14 +45,14 @@ fn is_accepted(reply: &Reply) -> bool
     matches!(reply, Reply::Accepted)
 }
 
-/// The status of a command that was collected.
-fn collected(answer: Reply) -> Result<Status, Reply>
-    ensures status { IfOk result (λ status. answer ≡ reply.Collected status) }
+/// How a command that was collected ended, and what was hinted at.
+fn collected(answer: Reply) -> Result<(Status, Hints), Reply>
+    ensures end { IfOk result (λ end. answer ≡ reply.Collected end.0 end.1) }
     ensures back { IfErr result (λ why. why ≡ answer) }
     ensures other { IfErr result (λ why. whole.is_collected why ≡ false) }
 {
     match answer {
-        Reply::Collected(status) => Ok(status),
+        Reply::Collected { status, hints } => Ok((status, hints)),
         other => Err(other),
     }
 }
@@ -149,17 +151,17 @@ fn wait(desk: &mut Desk, q: u16, cid: u16)
 /// # Errors
 ///
 /// What the first step answered that was not done.
-fn finish(desk: &mut Desk, q: u16, cid: u16) -> Result<(Status, Bytes), Reply>
-    ensures finished { IfOk result (λ end. Finishes desk.old q cid end.0 end.1 desk.new) }
+fn finish(desk: &mut Desk, q: u16, cid: u16) -> Result<(Status, Hints, Bytes), Reply>
+    ensures finished { IfOk result (λ end. Finishes desk.old q cid end.0 end.1 end.2 desk.new) }
     ensures failed { IfErr result (λ why. FirstFails desk.old (end_steps q cid) why desk.new) }
 {
-    let status = collected(desk.step(Step::Collect { q, cid }))?;
+    let (status, hints) = collected(desk.step(Step::Collect { q, cid }))?;
     let bytes = gathered(desk.step(Step::Gather { q, cid }))?;
     let released = desk.step(Step::Release { q, cid });
     if !is_accepted(&released) {
         return Err(released);
     }
-    Ok((status, bytes))
+    Ok((status, hints, bytes))
 }
 
 /// Carries a reserved command on to its release.
@@ -172,7 +174,11 @@ fn carry_reserved(desk: &mut Desk, q: u16, cid: u16, bytes: Option<Bytes>) -> Ca
     }
     wait(desk, q, cid);
     match finish(desk, q, cid) {
-        Ok((status, bytes)) => Carried::Ended { status, bytes },
+        Ok((status, hints, bytes)) => Carried::Ended {
+            status,
+            hints,
+            bytes,
+        },
         Err(why) => Carried::Left { cid, why },
     }
 }

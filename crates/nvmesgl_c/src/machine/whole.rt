@@ -13,7 +13,9 @@ use crate::machine::code::code_of_answer;
 use crate::machine::handle::Handle;
 use crate::machine::steps::refuse;
 use crate::words::code::{BAD_COUNT, DONE, MEMORY, TOO_SHORT};
-use crate::words::{Answer, CBytes, MOST_MOVED, copy_of, count_of, ended, nothing, request_for};
+use crate::words::{
+    Answer, CBytes, MOST_MOVED, collected, copy_of, count_of, nothing, request_for,
+};
 use std::alloc::Global;
 use step_core::{Bytes, Kind, Request};
 
@@ -42,9 +44,13 @@ fn told_carried(carried: &Carried) -> Answer
     ensures { result ≡ whole.told_carried carried.now }
 {
     match carried {
-        Carried::Ended { status, bytes } => Answer {
+        Carried::Ended {
+            status,
+            hints,
+            bytes,
+        } => Answer {
             bytes: bytes.as_slice().len(),
-            ..ended(*status)
+            ..collected(*status, *hints)
         },
         Carried::NotReserved(why) | Carried::GivenUp(why) => told_of(why),
         Carried::Left { cid, .. } => Answer {

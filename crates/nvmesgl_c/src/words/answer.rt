@@ -4,7 +4,7 @@ ghost use Rattle.std.specs.Prelude.{◌≡◌, slice_get, unwrap_or, length, min
 ghost use Rattle.nvmesgl_c.specs.Answers as answers;
 
 use controller_walk::WalkState;
-use entry_codec::Status;
+use entry_codec::{Hints, Status};
 use machine_model::words::{OpenRefusal, Reaped, Refusal, RejectedFor};
 use page_memory::PageNo;
 
@@ -40,8 +40,14 @@ pub struct Answer {
     pub sc: u8,
     /// How many commands a call that serves completed.
     pub count: u32,
+    /// The retry delay that was hinted at of a command that was collected.
+    pub retry_delay: u8,
+    /// Whether there is more on it in the controller's log.
+    pub more: bool,
+    /// Whether it is expected to fail again.
+    pub do_not_retry: bool,
     /// Zeros.
-    pub reserved: [u32; 3],
+    pub reserved: [u8; 9],
     /// The tag of a host's command of an I/O queue that was reaped or collected.
     pub tag: u64,
 }
@@ -64,7 +70,10 @@ pub fn nothing() -> Answer
         sct: 0,
         sc: 0,
         count: 0,
-        reserved: [0; 3],
+        retry_delay: 0,
+        more: false,
+        do_not_retry: false,
+        reserved: [0; 9],
         tag: 0,
     }
 }
@@ -103,6 +112,18 @@ pub fn ended(status: Status) -> Answer
         sct: status.sct,
         sc: status.sc,
         ..nothing()
+    }
+}
+
+/// A command was collected that ended so, with these hints.
+pub fn collected(status: Status, hints: Hints) -> Answer
+    ensures { result ≡ answers.collected status hints }
+{
+    Answer {
+        retry_delay: hints.retry_delay,
+        more: hints.more,
+        do_not_retry: hints.do_not_retry,
+        ..ended(status)
     }
 }
 

@@ -1,13 +1,14 @@
 //! Arbitrary steps, mostly sensible ones, and completions that no controller posted.
 
 ghost use Rattle.std.specs.Prelude.{◌<◌};
+ghost use Rattle.entry_codec.specs.Hints.{FitsHints};
 
 use crate::worlds::desk::Desk;
 use crate::worlds::notes::Notes;
 use crate::worlds::requests::{BLOCKS, SHAPES, bytes, request};
 use crate::worlds::rings::{COMMANDS, ENTRIES, Rings, Stage};
 use crate::worlds::told::Told;
-use entry_codec::{ComEntry, Status};
+use entry_codec::{ComEntry, Hints, Status};
 use io_commands::Kind;
 use std::alloc::{AllocError, Global};
 use step_core::{Bytes, Step};
@@ -111,6 +112,17 @@ fn any_status(numbers: &mut Numbers) -> Status
     }
 }
 
+/// The hints beside a double word: for each of 0, 1 and 2 other ones.
+fn hints_beside(dw0: u32) -> Hints
+    ensures { FitsHints result }
+{
+    Hints {
+        retry_delay: (dw0 % 4) as u8,
+        more: dw0 == 1,
+        do_not_retry: dw0 == 2,
+    }
+}
+
 /// A completion, mostly of a command that waits, and mostly with the right phase, submission head and queue.
 fn almost_right(numbers: &mut Numbers, q: u16, rings: Rings) -> [u8; 16] {
     let cid = rings.awaited(numbers.below(u32::from(COMMANDS)) as u16);
@@ -124,13 +136,15 @@ fn almost_right(numbers: &mut Numbers, q: u16, rings: Rings) -> [u8; 16] {
     } else {
         q
     };
+    let dw0 = numbers.below(3);
     let entry = ComEntry {
-        dw0: numbers.below(3),
+        dw0,
         sqhd,
         sqid,
         cid,
         phase: rings.phase ^ (numbers.below(16) == 0),
         status: any_status(numbers),
+        hints: hints_beside(dw0),
     };
     entry.write()
 }

@@ -148,7 +148,7 @@ impl Notes {
         };
         match (noted, told) {
             (Noted::Reserved(_), Told::Reserved(cid)) => rings.note(cid, Stage::Drafted),
-            (Noted::Stage(_, cid, stage), Told::Accepted | Told::Collected(_)) => {
+            (Noted::Stage(_, cid, stage), Told::Accepted | Told::Collected(..)) => {
                 rings.note(cid, stage);
             }
             (Noted::Submitted(_, cid), Told::Accepted) => {

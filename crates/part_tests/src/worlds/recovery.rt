@@ -7,7 +7,7 @@ use crate::worlds::requests::BLOCKS;
 use crate::worlds::rings::{COMMANDS, ENTRIES, Rings, Stage};
 use crate::worlds::sets::all_sets;
 use crate::worlds::told::Told;
-use entry_codec::Status;
+use entry_codec::{Hints, Status};
 use machine_model::words::Reaped;
 use std::alloc::Global;
 use std::process::Abort;
@@ -30,7 +30,7 @@ const CONFIG: Config = Config {
 };
 
 /// Gives back what is left of a command that was at a stage before the reset: a draft is cancelled, and what waited for its completion has
-/// the status of a reset.
+/// the status of a reset, and no hints.
 fn give_back(desk: &mut Desk, q: u16, cid: u16, stage: Stage) {
     match stage {
         Stage::Absent => return,
@@ -39,14 +39,14 @@ fn give_back(desk: &mut Desk, q: u16, cid: u16, stage: Stage) {
             return;
         }
         Stage::Waiting => {
-            let lost = Told::Collected(Status::ABORTED_SQ_DELETION);
+            let lost = Told::Collected(Status::ABORTED_SQ_DELETION, Hints::NONE);
             desk.see(Step::Collect { q, cid }, lost);
             desk.notes.tally.lost = desk.notes.tally.lost.wrapping_add(1);
         }
         Stage::Ended => {
             let told = desk.step(Step::Collect { q, cid });
             desk.seen
-                .holds("it is collected", matches!(told, Told::Collected(_)));
+                .holds("it is collected", matches!(told, Told::Collected(..)));
         }
         Stage::Collected => {}
     }

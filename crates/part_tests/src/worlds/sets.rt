@@ -4,7 +4,7 @@ use crate::worlds::desk::Desk;
 use crate::worlds::requests::{BLOCKS, SHAPES, Shape, bytes, request};
 use crate::worlds::told::Told;
 use controller_walk::WalkState;
-use entry_codec::Status;
+use entry_codec::{Hints, Status};
 use io_commands::{Kind, Request};
 use machine_model::words::Reaped;
 use std::process::Abort;
@@ -37,7 +37,10 @@ fn serve(desk: &mut Desk, q: u16, status: Status) -> u32 {
     desk.see(Step::Complete { q, cid }, Told::Completed);
     let done = Reaped::Done { cid, status };
     desk.see(Step::Reap { q }, Told::Reaps(done));
-    desk.see(Step::Collect { q, cid }, Told::Collected(status));
+    desk.see(
+        Step::Collect { q, cid },
+        Told::Collected(status, Hints::NONE),
+    );
     steps
 }
 

@@ -1,7 +1,7 @@
 //! What a step of a bench told, in short.
 
 use controller_walk::WalkState;
-use entry_codec::Status;
+use entry_codec::{Hints, Status};
 use machine_model::words::{Reaped, Refusal};
 use step_core::Reply;
 
@@ -16,7 +16,7 @@ pub(crate) enum Told {
     Walked(WalkState),
     Completed,
     Reaps(Reaped),
-    Collected(Status),
+    Collected(Status, Hints),
     Gathered,
     /// The identifier of the admin command that was sent.
     Sent(u16),
@@ -35,7 +35,7 @@ impl Told {
             Reply::Walked { state, .. } => Told::Walked(*state),
             Reply::Completed { .. } => Told::Completed,
             Reply::Reaps(found) => Told::Reaps(*found),
-            Reply::Collected(status) => Told::Collected(*status),
+            Reply::Collected { status, hints } => Told::Collected(*status, *hints),
             Reply::Gathered(_) => Told::Gathered,
             Reply::Sent { cid } => Told::Sent(*cid),
             Reply::NoValue | Reply::NotFilled(_) => Told::NotDone,

@@ -85,7 +85,7 @@ pub fn reply_in<A: Allocator, B: Allocator>(
         Reply::Walked { state, touched } => Reply::Walked { state, touched },
         Reply::Completed { touched } => Reply::Completed { touched },
         Reply::Reaps(what) => Reply::Reaps(what),
-        Reply::Collected(status) => Reply::Collected(status),
+        Reply::Collected { status, hints } => Reply::Collected { status, hints },
         Reply::Sent { cid } => Reply::Sent { cid },
         Reply::NoValue => Reply::NoValue,
         Reply::NotFilled(why) => Reply::NotFilled(why),

@@ -151,9 +151,9 @@ pub fn collected<A: Allocator>(
 ) -> Answer<A> {
     match answer {
         Ok(finished) => {
-            let status = finished.status();
+            let (status, hints) = (finished.status(), finished.hints());
             values.push(Value::Finished(finished))?;
-            Ok(Reply::Collected(status))
+            Ok(Reply::Collected { status, hints })
         }
         Err(back) => {
             values.push(Value::Ticket(back.value))?;

@@ -143,7 +143,7 @@ fn put_answer<S: Serializer>(out: &mut S, reply: &Reply, text: &str) -> Result<(
             put_touched(out, touched)
         }
         Reply::Reaps(found) => put_reaped(out, found, text),
-        Reply::Collected(status) => {
+        Reply::Collected { status, .. } => {
             put_text(out, "answer", "collected")?;
             put_status(out, *status, text)
         }
@@ -219,7 +219,7 @@ fn text_of(alloc: Global, reply: &Reply) -> Result<String, AllocError>
     match reply {
         Reply::Walked { state, .. } => walked_text(alloc, *state),
         Reply::Reaps(found) => reaped_text(alloc, found),
-        Reply::Collected(status) => format!(in alloc; "{status}"),
+        Reply::Collected { status, .. } => format!(in alloc; "{status}"),
         Reply::Gathered(bytes) => hex_bytes(alloc, bytes.as_slice()),
         _ => Ok(String::new(alloc)),
     }

@@ -157,6 +157,7 @@ fn put_completion_head(out: &mut String, entry: &ComEntry) -> Result<(), AllocEr
         cid,
         phase,
         status: _,
+        hints: _,
     } = *entry;
     let phase = u8::from(phase);
     write!(

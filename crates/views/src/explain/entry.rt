@@ -1,6 +1,6 @@
 //! Entries whose queue is known, and what of them only people ask for.
 
-use entry_codec::{ComEntry, SubEntry, admin_opcode};
+use entry_codec::{ComEntry, Hints, SubEntry, admin_opcode};
 use io_commands::{block_number, first_block, kind_of};
 use std::alloc::AllocError;
 use texts::traces::{
@@ -26,26 +26,18 @@ pub(crate) fn put_entry(out: &mut String, entry: &SubEntry) -> Result<(), AllocE
     )
 }
 
-/// The bits above a status of its field: Do Not Retry, More and Command Retry Delay.
-pub(crate) fn retry_of(field: u16) -> (u16, u16, u16) {
-    (field / 16_384 % 2, field / 8_192 % 2, field / 2_048 % 4)
-}
-
-/// The field of 15 bits that a completion entry has its status in.
-pub(crate) fn field_of(bytes: &[u8; 16]) -> u16 {
-    u16::from_le_bytes([bytes[14], bytes[15]]) / 2
-}
-
-/// Puts the bits above a status: Command Retry Delay, More and Do Not Retry (NVM Express Base Specification 2.0, "Status Field Definition"), 14:11 of a status field.
-pub(crate) fn put_retry(out: &mut String, field: u16) -> Result<(), AllocError> {
-    let (retry, more, delay) = retry_of(field);
+/// Puts the hints above a status: Command Retry Delay, More and Do Not Retry (NVM Express Base Specification 2.0, "Status Field Definition"), 14:11 of a status field.
+pub(crate) fn put_hints(out: &mut String, hints: Hints) -> Result<(), AllocError> {
+    let (retry, more) = (u8::from(hints.do_not_retry), u8::from(hints.more));
+    let delay = hints.retry_delay;
     write!(out, "    DNR {retry}, More {more}, CRD {delay}\n")
 }
 
 /// Puts the fields of a completion entry, those among them that no entry of this controller has.
 pub(crate) fn put_whole_completion(out: &mut String, bytes: &[u8; 16]) -> Result<(), AllocError> {
-    put_completion_fields(out, &ComEntry::read(bytes))?;
-    put_retry(out, field_of(bytes))
+    let entry = ComEntry::read(bytes);
+    put_completion_fields(out, &entry)?;
+    put_hints(out, entry.hints)
 }
 
 /// What an opcode of the admin queue asks for (the same specification, "Admin Command Set").

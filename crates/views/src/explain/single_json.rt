@@ -1,9 +1,9 @@
 //! Single entries, descriptors and statuses as objects.
 
-use crate::explain::entry::{admin_name, field_of, halves, retry_of};
+use crate::explain::entry::{admin_name, halves};
 use crate::explain::refusal::{Refusal, descriptor_fault, entry_refusal, put_first_rule};
-use crate::explain::status::{any_name_of, status_of};
-use entry_codec::{ComEntry, Status, SubEntry, admin_opcode};
+use crate::explain::status::{any_name_of, parts_of};
+use entry_codec::{ComEntry, Hints, Status, SubEntry, admin_opcode};
 use io_commands::{block_number, first_block, kind_of};
 use serde::Serialize;
 use std::alloc::{AllocError, Global};
@@ -115,14 +115,14 @@ struct AdminObject {
     fields: Option<AdminFields>,
 }
 
-/// A status, and the bits above it.
+/// A status, and the hints above it.
 #[derive(Drop, Serialize)]
 struct StatusObject {
     status: String,
     name: Option<&'static str>,
-    dnr: u16,
-    more: u16,
-    crd: u16,
+    dnr: u8,
+    more: u8,
+    crd: u8,
 }
 
 /// A completion entry.
@@ -315,15 +315,14 @@ pub(crate) fn put_admin_object(
     put_object(alloc, out, &object)
 }
 
-/// The object of a status, by its name, and the bits of the field above it.
-fn status_object(alloc: Global, status: Status, field: u16) -> Result<StatusObject, AllocError> {
-    let (dnr, more, crd) = retry_of(field);
+/// The object of a status, by its name, and the hints above it.
+fn status_object(alloc: Global, status: Status, hints: Hints) -> Result<StatusObject, AllocError> {
     Ok(StatusObject {
         status: format!(in alloc; "{status}")?,
         name: any_name_of(status),
-        dnr,
-        more,
-        crd,
+        dnr: u8::from(hints.do_not_retry),
+        more: u8::from(hints.more),
+        crd: hints.retry_delay,
     })
 }
 
@@ -340,6 +339,7 @@ pub(crate) fn put_completion_object(
         cid,
         phase,
         status,
+        hints,
     } = ComEntry::read(bytes);
     let object = CompletionObject {
         dw0,
@@ -347,7 +347,7 @@ pub(crate) fn put_completion_object(
         sqid,
         cid,
         phase: u8::from(phase),
-        status: status_object(alloc, status, field_of(bytes))?,
+        status: status_object(alloc, status, hints)?,
     };
     put_object(alloc, out, &object)
 }
@@ -358,5 +358,6 @@ pub(crate) fn put_status_object(
     out: &mut String,
     field: u16,
 ) -> Result<(), AllocError> {
-    put_object(alloc, out, &status_object(alloc, status_of(field), field)?)
+    let (status, hints) = parts_of(field);
+    put_object(alloc, out, &status_object(alloc, status, hints)?)
 }

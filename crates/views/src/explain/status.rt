@@ -1,11 +1,12 @@
 //! Statuses as logs and tools print them.
 
-use crate::explain::entry::put_retry;
+use crate::explain::entry::put_hints;
 use crate::explain::fault::Wrong;
 use crate::explain::lines::{Line, Stop, behind_prefix, value_of};
 use crate::explain::status_words::word_of;
-use entry_codec::Status;
+use entry_codec::completion::{hints, status};
 use entry_codec::status_names::name_of;
+use entry_codec::{Hints, Status};
 use std::alloc::AllocError;
 
 /// The most that a status field of 15 bits is.
@@ -30,12 +31,11 @@ fn field_of(word: &[u8]) -> Option<u16> {
     Some(field as u16)
 }
 
-/// The status of a field.
-pub(crate) fn status_of(field: u16) -> Status {
-    Status {
-        sct: (field / 256 % 8) as u8,
-        sc: (field % 256) as u8,
-    }
+/// The status and the hints of a field, as they are read of a completion entry that has it above its phase.
+pub(crate) fn parts_of(field: u16) -> (Status, Hints) {
+    let [low, high] = (field % 32_768 * 2).to_le_bytes();
+    let bytes = [0, 0, 0, 0, 0, 0, 0, 0, 0, 0, 0, 0, 0, 0, low, high];
+    (status(&bytes), hints(&bytes))
 }
 
 /// The name of a status, one that this controller does not have among them.
@@ -43,9 +43,9 @@ pub(crate) fn any_name_of(status: Status) -> Option<&'static str> {
     name_of(status).or(word_of(status.sct, status.sc))
 }
 
-/// Puts a status by its name, and the bits above it.
+/// Puts a status by its name, and the hints above it.
 fn put_field(out: &mut String, field: u16) -> Result<(), AllocError> {
-    let status = status_of(field);
+    let (status, hints) = parts_of(field);
     match any_name_of(status) {
         Some(name) => write!(out, "{status} {name}\n")?,
         None => write!(
@@ -53,7 +53,7 @@ fn put_field(out: &mut String, field: u16) -> Result<(), AllocError> {
             "{status}, a status without a name in the specifications\n"
         )?,
     }
-    put_retry(out, field)
+    put_hints(out, hints)
 }
 
 /// The status field that the one word of a line is.

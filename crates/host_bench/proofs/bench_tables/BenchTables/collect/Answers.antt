@@ -16,10 +16,10 @@ pub put_back-requires : goal.put_back-requires
 put_back-requires g c = is_empty c.args.self.now.values c.take_ticket.new.values c.args.q c.args.cid (value.Ticket c.in-Some.ticket) c.in-Some.ensures.out
 
 pub returns-in-Ok-clause-does : goal.returns-in-Ok-clause-does
-returns-in-Ok-clause-does g c = (collects (state_of c.args.self.now) c.args.self.now.values c.take_ticket.new.values c.args.q c.args.cid c.in-Some.ticket c.requires.bench c.in-Some.ensures.out (alone c.collect.new.self c.collect.new.store.pages) c.in-Ok.finished c.status-status.result c.put_next.new.values c.in-Ok.ensures.step c.status-status.ensures c.put_next.ensures).0
+returns-in-Ok-clause-does g c = (collects (state_of c.args.self.now) c.args.self.now.values c.take_ticket.new.values c.args.q c.args.cid c.in-Some.ticket c.requires.bench c.in-Some.ensures.out (alone c.collect.new.self c.collect.new.store.pages) c.in-Ok.finished c.status-status.result c.hints-hints.result c.put_next.new.values c.in-Ok.ensures.step c.status-status.ensures c.hints-hints.ensures c.put_next.ensures).0
 
 pub returns-in-Ok-clause-kept : goal.returns-in-Ok-clause-kept
-returns-in-Ok-clause-kept g c = (collects (state_of c.args.self.now) c.args.self.now.values c.take_ticket.new.values c.args.q c.args.cid c.in-Some.ticket c.requires.bench c.in-Some.ensures.out (alone c.collect.new.self c.collect.new.store.pages) c.in-Ok.finished c.status-status.result c.put_next.new.values c.in-Ok.ensures.step c.status-status.ensures c.put_next.ensures).1
+returns-in-Ok-clause-kept g c = (collects (state_of c.args.self.now) c.args.self.now.values c.take_ticket.new.values c.args.q c.args.cid c.in-Some.ticket c.requires.bench c.in-Some.ensures.out (alone c.collect.new.self c.collect.new.store.pages) c.in-Ok.finished c.status-status.result c.hints-hints.result c.put_next.new.values c.in-Ok.ensures.step c.status-status.ensures c.hints-hints.ensures c.put_next.ensures).1
 
 pub returns-in-Err-clause-does : goal.returns-in-Err-clause-does
 returns-in-Err-clause-does g c = (collect_refused (state_of c.args.self.now) c.args.self.now.values c.take_ticket.new.values c.args.q c.args.cid c.in-Some.ticket c.requires.bench c.in-Some.ensures.out (alone c.collect.new.self c.collect.new.store.pages) c.in-Err.field-0.value c.in-Err.field-0.why c.refused.result c.put_back.new.values c.in-Err.ensures.step c.in-Err.ensures.back c.refused.ensures c.put_back.ensures).0

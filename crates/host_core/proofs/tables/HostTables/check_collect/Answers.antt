@@ -19,8 +19,11 @@ returns-in-Held-Io-Some-clause-stands g c = λ pages w. record {
 
 pub returns-in-Held-Io-Some-clause-tells : goal.returns-in-Held-Io-Some-clause-tells
 returns-in-Held-Io-Some-clause-tells g c = λ pages w entry was.
-    let same = row-is c.args.self.now.records.rows c.args.q c.args.cid (sym c.in-Some.ensures.value ∙ ap Some (sym c.entry.view_is)) was in
-    (ap (λ (r : Record). r.work) (sym same) ∙ c.in-Held-Io-Some.is-1, ap (λ (r : Record). r.status) (sym same) ∙ c.in-Held-Io-Some.is-2)
+    let same = row-is c.args.self.now.records.rows c.args.q c.args.cid (sym c.in-Some.ensures.value ∙ ap Some (sym c.entry.view_is)) was in (
+      ap (λ (r : Record). r.work) (sym same) ∙ c.in-Held-Io-Some.is-1,
+      ap (λ (r : Record). r.status) (sym same) ∙ c.in-Held-Io-Some.is-2,
+      ap (λ (r : Record). r.hints) (sym same),
+    )
 
 pub returns-in-Held-Io-Some-clause-pages : goal.returns-in-Held-Io-Some-clause-pages
 returns-in-Held-Io-Some-clause-pages g c = λ pages w entry was.

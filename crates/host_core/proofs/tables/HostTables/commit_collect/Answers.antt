@@ -56,7 +56,7 @@ returns g c =
     let new : Tables = tables_of (record c.args.self.now { records = record c.args.self.now.records { rows = marked } }) c.take_pages.new.store.pages in
     let kept = with-row rows c.args.q c.args.cid collected c.unwrap-entry.result.now c.collect.new.self (rw c.unwrap-entry.ensures at c.get_mut.ensures.distinct) (sym c.get_mut.ensures.value ∙ ap option_copied_mut c.unwrap-entry.ensures) (c.collect.ensures c.args.q c.args.cid) in
     let left = changed-rows c.args.self.now marked (with_record c.args.q c.args.cid collected) kept c.take_pages.new.store.pages ∙ collected_tables t c.args.q c.args.cid c.take_pages.new.store.pages c.requires.stands pages in
-    let made = collect_made t new c.args.q c.args.cid c.args.room.request c.args.room.status c.take_pages.new.into.items c.make.result c.requires.whole c.requires.stands told.0 told.1 items c.make.ensures left in
+    let made = collect_made t new c.args.q c.args.cid c.args.room.request c.args.room.status c.args.room.hints c.take_pages.new.into.items c.make.result c.requires.whole c.requires.stands told.0 told.1 told.2 items c.make.ensures left in
     let data_pages = c.unwrap-entry.result.now.data_pages in
     let chain_pages = c.unwrap-entry.result.now.chain_pages in
     let rest = without_pages data_pages t.pages in

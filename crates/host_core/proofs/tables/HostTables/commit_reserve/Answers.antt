@@ -7,6 +7,7 @@ use Rattle.page_memory.specs.Pages.{Pages}
 use Rattle.host_core.proofs.Granted.{data-size, chain-size, length-zeroed, granted_can_take, made_draft, made_pages, reserved_tables}
 use Rattle.host_core.{proofs.{Identifiers.{new-place, new-empty}, Told.both_parts}, specs.Commands.{first_placed, then_placed, reserved, CanTake}}
 use Rattle.host_core.specs.{Parts.tables_of, Tables.Tables}
+use Rattle.entry_codec.specs.declared.hints.TheConstants.Hints.{NONE}
 use Rattle.host_core.proofs.tables.HostTables.commit_reserve.Goals as goal
 
 pub move_out_zeroed-requires-clause-can : goal.move_out_zeroed-requires-clause-can
@@ -91,7 +92,7 @@ returns g c =
     let owners = c.place_command.ensures.owners
     ∙ ap₂ (λ (x y : List ℕ). with_owner (with_owner t.owners x (Command c.args.q c.args.grant.cid Data)) y (Command c.args.q c.args.grant.cid Chain)) c.place_command.ensures.data_numbers c.place_command.ensures.chain_numbers in
     let kept : Request → List ℕ → List ℕ → List Record =
-    λ r x y. t.records ++ record { q = c.args.q; cid = c.args.grant.cid; phase = Drafted; work = Io r; data_pages = x; chain_pages = y; status = None } ∷ [] in
+    λ r x y. t.records ++ record { q = c.args.q; cid = c.args.grant.cid; phase = Drafted; work = Io r; data_pages = x; chain_pages = y; status = None; hints = NONE } ∷ [] in
     let records =
     ap (λ (r : Request). kept r c.place_command.new.data_numbers.items c.place_command.new.chain_numbers.items) c.requires.request
     ∙ ap₂ (kept c.args.request) c.place_command.ensures.data_numbers c.place_command.ensures.chain_numbers in
