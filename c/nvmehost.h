@@ -228,6 +228,8 @@ uint32_t nvmehost_poll(nvmehost *, uint16_t q, nvmehost_ended *buffer, size_t bu
 uint32_t nvmehost_delete_sq(nvmehost *, uint16_t q, nvmesgl_answer *) NVMESGL_CALL(1, 3);
 uint32_t nvmehost_delete_cq(nvmehost *, uint16_t q, nvmesgl_answer *) NVMESGL_CALL(1, 3);
 uint32_t nvmehost_create_cq(nvmehost *, uint16_t q, nvmesgl_answer *) NVMESGL_CALL(1, 3);
+/* With interrupts on a vector of the device's, where nvmehost_create_cq is polled. The command tells the device so; interrupts are the caller's. */
+uint32_t nvmehost_create_cq_vector(nvmehost *, uint16_t q, uint16_t vector, nvmesgl_answer *) NVMESGL_CALL(1, 4);
 uint32_t nvmehost_create_sq(nvmehost *, uint16_t q, nvmesgl_answer *) NVMESGL_CALL(1, 3);
 /* Gives back the submission ring of a queue whose deletion was reaped. Refused: NOT_DELETED, NOT_DRAINED. */
 uint32_t nvmehost_retire(nvmehost *, uint16_t q, nvmesgl_answer *) NVMESGL_CALL(1, 3);

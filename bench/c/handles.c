@@ -91,6 +91,7 @@ static void host_calls(nvmehost *h) {
     STRANGE(nvmehost_reserve_tagged(h, 1, NVMESGL_READ, 0, 1, &piece, 1, 7, &answer));
     STRANGE(nvmehost_submit_iov(h, 1, NVMESGL_READ, 0, &buffer, 1, 7, &answer));
     STRANGE(nvmehost_gather_iov(h, 1, 0, &buffer, 1, &answer));
+    STRANGE(nvmehost_create_cq_vector(h, 1, 3, &answer));
     STRANGE(nvmehost_read(h, 0, block, 512));
     STRANGE(nvmehost_write(h, 0, block, 512));
     STRANGE(nvmehost_look(h, 1, &queue));

@@ -165,7 +165,7 @@ static uint32_t arbitrary(void) {
     case 15: return nvmehost_gather(&host, q, cid, bytes, below(3) == 0 ? 100 : sizeof bytes, &answer);
     case 16: return nvmehost_release(&host, q, cid, &answer);
     case 17: return nvmehost_abort(&host, q, cid, &answer);
-    case 18: return below(3) == 0 ? nvmehost_delete_sq(&host, q, &answer) : nvmehost_create_cq(&host, q, &answer);
+    case 18: return below(3) == 0 ? nvmehost_delete_sq(&host, q, &answer) : cid % 2 == 0 ? nvmehost_create_cq_vector(&host, q, cid, &answer) : nvmehost_create_cq(&host, q, &answer);
     case 19: return below(3) == 0 ? nvmehost_delete_cq(&host, q, &answer) : nvmehost_create_sq(&host, q, &answer);
     case 20: return nvmehost_retire(&host, q, &answer);
     case 21: {

@@ -217,14 +217,9 @@ static void identify_namespace(struct nvme *nvme) {
 
 static void make_queue(struct nvme *nvme, uint16_t q) {
     nvmesgl_answer answer;
-    uint32_t entry[16];
-    nvme_done(nvmehost_create_cq(&nvme->host, q, &answer), "create_cq");
+    if (nvme->options.interrupts) nvme_done(nvmehost_create_cq_vector(&nvme->host, q, q, &answer), "create_cq_vector");
+    else nvme_done(nvmehost_create_cq(&nvme->host, q, &answer), "create_cq");
     grant_completions(nvme, q);
-    if (nvme->options.interrupts) {
-        nvme_read_entry(nvme, 0, entry);
-        entry[11] |= 2u | (uint32_t)q << 16; /* IEN, which the host leaves 0, and the vector */
-        nvme_write_entry(nvme, 0, entry);
-    }
     admin(nvme, "Create I/O Completion Queue fails");
     nvme_done(nvmehost_create_sq(&nvme->host, q, &answer), "create_sq");
     grant_submissions(nvme, q);

@@ -86,7 +86,7 @@ class Driver(Opened):
         return int(self._call("delete_cq", q).cid)
 
     def create_cq(self, q: int) -> int:
-        """Sends the creation of a completion queue. The identifier on queue 0; it is not rung."""
+        """Sends the creation of a completion queue that is polled. The identifier on queue 0; it is not rung."""
         return int(self._call("create_cq", q).cid)
 
     def create_sq(self, q: int) -> int:

@@ -219,6 +219,7 @@ _CALLS: Dict[str, List[Any]] = {
     "runs": [_HANDLE, U16, U16, POINTER(CRun), c_size_t, POINTER(c_size_t)],
     "data_place": [_HANDLE, U16, U16, U32, POINTER(CPlace)],
     **{name: [_HANDLE, U16, _ANSWER] for name in ("delete_sq", "delete_cq", "create_cq", "create_sq", "retire")},
+    "create_cq_vector": [_HANDLE, U16, U16, _ANSWER],
 }
 
 
@@ -329,6 +330,13 @@ class Host(Driver):
         told = self._call("poll", q, buffer, most, byref(count), byref(self._bell))
         doorbell = Doorbell(self._bell.offset, self._bell.value) if self._bell.rings else None
         return Polled([_ended(entry) for entry in buffer[: count.value]], doorbell, told.state == State.REAP_EMPTY)
+
+    def create_cq(self, q: int, vector: Optional[int] = None) -> int:
+        """Sends the creation of a completion queue with interrupts on a vector of the device's; without one it is polled. The identifier on queue 0; it is
+        not rung. Interrupts are the caller's."""
+        if vector is None:
+            return super().create_cq(q)
+        return int(self._call("create_cq_vector", q, vector).cid)
 
     def reset(self) -> None:
         """Begins again, where the device is reset: queue 0 is as it opened, the I/O queues are gone, and every command that was submitted has ended,

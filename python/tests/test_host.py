@@ -55,13 +55,14 @@ def test_calls():
         assert host.queue(1).state == QueueState.GONE
         refused(Code.NO_QUEUE, host.ring, 1)
         device = Device(host)
-        for make, state in ((host.create_cq, QueueState.HALF_MADE), (host.create_sq, QueueState.LIVE)):
+        for make, state in ((lambda q: host.create_cq(q, 3), QueueState.HALF_MADE), (host.create_sq, QueueState.LIVE)):
             cid = make(1)
             device.ring(host.ring(0))
             told = host.reap(0)
             assert (told.state, told.cid, told.doorbell.offset) == (State.REAP_ADMIN_DONE, cid, 0x1004), told
             assert host.queue(1).state == state
         assert host.rings(1) == device.rings[1]
+        assert host.read(44, 4) == struct.pack("<HH", 3, 3)  # CDW11 of the first entry: in consecutive pages, with interrupts, on vector 3
         rings = host.queue(1)
         assert [len(pages) for pages in (rings.submission, rings.completion)] == [1, 1]
         assert (host.may(rings.submission[0]), host.may(rings.completion[0])) == (Right.READ, Right.WRITE)

@@ -1,6 +1,6 @@
 -- The entries of admin commands, and what they name.
 use Rattle.std.specs.Int.{w64, to_le_bytes, from_le_bytes}
-use Rattle.std.specs.Prelude.{ℕ, ◌+◌, ◌*◌, ◌-◌, ◌/◌, ◌%◌, ◌==◌, Bool, ◌||◌, not, List, ◌++◌, if◌then◌else◌, Result, Ok, Err, replicate, take}
+use Rattle.std.specs.Prelude.{ℕ, ◌+◌, ◌*◌, ◌-◌, ◌/◌, ◌%◌, ◌==◌, Bool, ◌||◌, not, List, ◌++◌, if◌then◌else◌, Option, Some, None, Result, Ok, Err, replicate, take}
 use Rattle.entry_codec.specs.declared.{status.{Status.Status, TheConstants.Status.{INVALID_OPCODE, INVALID_FIELD}}, submission.SubEntry.SubEntry}
 use Rattle.admin_commands.specs.declared.AdminKind.{AdminKind, TheVariants.{Abort, DeleteSq, DeleteCq, CreateCq, CreateSq}}
 use Rattle.entry_codec.specs.declared.admin_opcode.TheConstants as opcodes
@@ -9,7 +9,7 @@ abbrev pub opcode_of : AdminKind → ℕ
 opcode_of (Abort q cid) = opcodes.ABORT
 opcode_of (DeleteSq q) = opcodes.DELETE_IO_SQ
 opcode_of (DeleteCq q) = opcodes.DELETE_IO_CQ
-opcode_of (CreateCq q n base) = opcodes.CREATE_IO_CQ
+opcode_of (CreateCq q n base vector) = opcodes.CREATE_IO_CQ
 opcode_of (CreateSq q n base) = opcodes.CREATE_IO_SQ
 
 -- CDW10: the queue in its low half; in its high half the command that an Abort names, and one less than the entries of a ring
@@ -17,15 +17,17 @@ abbrev pub named_by : AdminKind → ℕ
 named_by (Abort q cid) = q + 65536 * cid
 named_by (DeleteSq q) = q
 named_by (DeleteCq q) = q
-named_by (CreateCq q n base) = q + 65536 * (n - 1)
+named_by (CreateCq q n base vector) = q + 65536 * (n - 1)
 named_by (CreateSq q n base) = q + 65536 * (n - 1)
 
--- CDW11 of a creation: the ring lies in consecutive pages, and a submission queue's completions go to the completion queue of its number
+-- CDW11 of a creation: the ring lies in consecutive pages (bit 0), a completion queue is polled, or has interrupts (bit 1) on a vector (bits
+-- 31:16), and a submission queue's completions go to the completion queue of its number (bits 31:16)
 abbrev pub qualified_by : AdminKind → ℕ
 qualified_by (Abort q cid) = 0
 qualified_by (DeleteSq q) = 0
 qualified_by (DeleteCq q) = 0
-qualified_by (CreateCq q n base) = 1
+qualified_by (CreateCq q n base None) = 1
+qualified_by (CreateCq q n base (Some vector)) = 1 + 2 + 65536 * vector
 qualified_by (CreateSq q n base) = 1 + 65536 * q
 
 -- the address where a creation's ring begins
@@ -33,7 +35,7 @@ abbrev pub base_of : AdminKind → ℕ
 base_of (Abort q cid) = 0
 base_of (DeleteSq q) = 0
 base_of (DeleteCq q) = 0
-base_of (CreateCq q n base) = base
+base_of (CreateCq q n base vector) = base
 base_of (CreateSq q n base) = base
 
 -- the data pointer: an address in its first eight bytes
@@ -78,6 +80,10 @@ is_contiguous entry = entry.cdw11 % 2 == 1
 abbrev pub named_completion_queue : SubEntry → ℕ
 named_completion_queue entry = entry.cdw11 / 65536
 
+-- the vector of a completion queue's interrupts, where they are enabled
+abbrev pub named_vector : SubEntry → Option ℕ
+named_vector entry = if entry.cdw11 / 2 % 2 == 1 then Some (entry.cdw11 / 65536) else None
+
 -- the address where the ring begins
 abbrev pub named_base : SubEntry → ℕ
 named_base entry = from_le_bytes w64 (take 8 entry.sgl1)
@@ -95,5 +101,5 @@ kind_or_fault entry =
     else if entry.opcode == opcodes.ABORT then Ok (Abort (named_queue entry) (named_command entry))
     else if entry.opcode == opcodes.DELETE_IO_SQ then Ok (DeleteSq (named_queue entry))
     else if entry.opcode == opcodes.DELETE_IO_CQ then Ok (DeleteCq (named_queue entry))
-    else if entry.opcode == opcodes.CREATE_IO_CQ then Ok (CreateCq (named_queue entry) (named_size entry) (named_base entry))
+    else if entry.opcode == opcodes.CREATE_IO_CQ then Ok (CreateCq (named_queue entry) (named_size entry) (named_base entry) (named_vector entry))
     else Ok (CreateSq (named_queue entry) (named_size entry) (named_base entry))

@@ -1,6 +1,6 @@
 //! The rules of the admin commands, for any entry, and what the entries that the driver sends ask for.
 
-ghost use Rattle.std.specs.Prelude.{ℕ, ◌≡◌, ◌≢◌, ◌<◌, ◌≤◌, ◌+◌, ◌/◌, ◌%◌, ◌^◌, ◌++◌, ◌∷◌, [], true, false, Ok, replicate, take};
+ghost use Rattle.std.specs.Prelude.{ℕ, ◌≡◌, ◌≢◌, ◌<◌, ◌≤◌, ◌+◌, ◌/◌, ◌%◌, ◌^◌, ◌++◌, ◌∷◌, [], true, false, Option, Some, None, Ok, replicate, take};
 ghost use Rattle.page_memory.specs.declared.page.Half.TheVariants.{Submission, Completion};
 ghost use Rattle.entry_codec.specs.declared.submission.SubEntry.{SubEntry};
 ghost use Rattle.entry_codec.specs.declared.status.TheConstants.Status.{SUCCESS, INVALID_OPCODE, INVALID_FIELD, COMPLETION_QUEUE_INVALID, INVALID_QUEUE_IDENTIFIER, INVALID_QUEUE_SIZE, INVALID_QUEUE_DELETION};
@@ -10,7 +10,7 @@ ghost use Rattle.admin_commands.specs.declared.AdminKind.TheVariants.{Abort, Del
 ghost use Rattle.admin_commands.specs.declared.SqState.TheVariants.{Absent, Live, Stopping};
 ghost use Rattle.admin_commands.specs.declared.AdminVerdict.TheVariants.{Answer, AbortJob, StopQueue, DropCompletion, MakeCompletion, MakeSubmission};
 ghost use Rattle.admin_commands.specs.declared.DeviceView.{DeviceView};
-ghost use Rattle.admin_commands.specs.Entries.{admin_entry, named_queue, named_command, named_size, named_completion_queue, named_base, is_contiguous, kind_or_fault};
+ghost use Rattle.admin_commands.specs.Entries.{admin_entry, named_queue, named_command, named_size, named_completion_queue, named_vector, named_base, is_contiguous, kind_or_fault};
 ghost use Rattle.admin_commands.specs.Creations.{CreatesFreeCompletionQueue, CreatesFreeSubmissionQueue, CreatesPairedSubmissionQueue};
 ghost use Rattle.admin_commands.specs.Verdicts.{decision};
 
@@ -21,10 +21,11 @@ pub fn names_come_back()
     ensures abort_command { (q cid id : ℕ) → q < 2 ^ 16 → named_command (admin_entry (Abort q cid) id) ≡ cid }
     ensures delete_sq { (q id : ℕ) → q < 2 ^ 16 → named_queue (admin_entry (DeleteSq q) id) ≡ q }
     ensures delete_cq { (q id : ℕ) → q < 2 ^ 16 → named_queue (admin_entry (DeleteCq q) id) ≡ q }
-    ensures create_cq_queue { (q n base id : ℕ) → q < 2 ^ 16 → named_queue (admin_entry (CreateCq q n base) id) ≡ q }
-    ensures create_cq_size { (q n base id : ℕ) → q < 2 ^ 16 → 1 ≤ n → named_size (admin_entry (CreateCq q n base) id) ≡ n }
-    ensures create_cq_base { (q n base id : ℕ) → base < 2 ^ 64 → named_base (admin_entry (CreateCq q n base) id) ≡ base }
-    ensures create_cq_contiguous { (q n base id : ℕ) → is_contiguous (admin_entry (CreateCq q n base) id) ≡ true }
+    ensures create_cq_queue { (q n base id : ℕ) (vector : Option ℕ) → q < 2 ^ 16 → named_queue (admin_entry (CreateCq q n base vector) id) ≡ q }
+    ensures create_cq_size { (q n base id : ℕ) (vector : Option ℕ) → q < 2 ^ 16 → 1 ≤ n → named_size (admin_entry (CreateCq q n base vector) id) ≡ n }
+    ensures create_cq_base { (q n base id : ℕ) (vector : Option ℕ) → base < 2 ^ 64 → named_base (admin_entry (CreateCq q n base vector) id) ≡ base }
+    ensures create_cq_contiguous { (q n base id : ℕ) (vector : Option ℕ) → is_contiguous (admin_entry (CreateCq q n base vector) id) ≡ true }
+    ensures create_cq_vector { (q n base id : ℕ) (vector : Option ℕ) → named_vector (admin_entry (CreateCq q n base vector) id) ≡ vector }
     ensures create_sq_queue { (q n base id : ℕ) → q < 2 ^ 16 → named_queue (admin_entry (CreateSq q n base) id) ≡ q }
     ensures create_sq_size { (q n base id : ℕ) → q < 2 ^ 16 → 1 ≤ n → named_size (admin_entry (CreateSq q n base) id) ≡ n }
     ensures create_sq_base { (q n base id : ℕ) → base < 2 ^ 64 → named_base (admin_entry (CreateSq q n base) id) ≡ base }
@@ -32,11 +33,12 @@ pub fn names_come_back()
     ensures create_sq_completion_queue { (q n base id : ℕ) → named_completion_queue (admin_entry (CreateSq q n base) id) ≡ q }
 {}
 
-/// The bytes of two creations' entries: of completion queue 1 with a ring of 4 entries at 2000h, and of submission queue 1 with one at
-/// 3000h.
+/// The bytes of three creations' entries: of completion queue 1 with a ring of 4 entries at 2000h, polled and with interrupts on vector 3,
+/// and of submission queue 1 with a ring at 3000h.
 #[tactic(auto, unfolding(entry_codec::specs::Submission::submission_bytes))]
 pub fn creations_have_their_bytes()
-    ensures completion_queue { submission_bytes (admin_entry (CreateCq 1 4 0x2000) 0) ≡ 0x05 ∷ 0x00 ∷ 0x00 ∷ 0x00 ∷ [] ++ replicate 20 0x00 ++ 0x00 ∷ 0x20 ∷ [] ++ replicate 14 0x00 ++ 0x01 ∷ 0x00 ∷ 0x03 ∷ 0x00 ∷ 0x01 ∷ 0x00 ∷ 0x00 ∷ 0x00 ∷ [] ++ replicate 16 0x00 }
+    ensures completion_queue { submission_bytes (admin_entry (CreateCq 1 4 0x2000 None) 0) ≡ 0x05 ∷ 0x00 ∷ 0x00 ∷ 0x00 ∷ [] ++ replicate 20 0x00 ++ 0x00 ∷ 0x20 ∷ [] ++ replicate 14 0x00 ++ 0x01 ∷ 0x00 ∷ 0x03 ∷ 0x00 ∷ 0x01 ∷ 0x00 ∷ 0x00 ∷ 0x00 ∷ [] ++ replicate 16 0x00 }
+    ensures with_interrupts { submission_bytes (admin_entry (CreateCq 1 4 0x2000 (Some 3)) 0) ≡ 0x05 ∷ 0x00 ∷ 0x00 ∷ 0x00 ∷ [] ++ replicate 20 0x00 ++ 0x00 ∷ 0x20 ∷ [] ++ replicate 14 0x00 ++ 0x01 ∷ 0x00 ∷ 0x03 ∷ 0x00 ∷ 0x03 ∷ 0x00 ∷ 0x03 ∷ 0x00 ∷ [] ++ replicate 16 0x00 }
     ensures submission_queue { submission_bytes (admin_entry (CreateSq 1 4 0x3000) 0) ≡ 0x01 ∷ 0x00 ∷ 0x00 ∷ 0x00 ∷ [] ++ replicate 20 0x00 ++ 0x00 ∷ 0x30 ∷ [] ++ replicate 14 0x00 ++ 0x01 ∷ 0x00 ∷ 0x03 ∷ 0x00 ∷ 0x01 ∷ 0x00 ∷ 0x01 ∷ 0x00 ∷ [] ++ replicate 16 0x00 }
 {}
 
@@ -113,8 +115,15 @@ pub fn entries_ask_for_their_command()
     ensures abort { (q cid id : ℕ) → q < 2 ^ 16 → kind_or_fault (admin_entry (Abort q cid) id) ≡ Ok (Abort q cid) }
     ensures delete_sq { (q id : ℕ) → q < 2 ^ 16 → kind_or_fault (admin_entry (DeleteSq q) id) ≡ Ok (DeleteSq q) }
     ensures delete_cq { (q id : ℕ) → q < 2 ^ 16 → kind_or_fault (admin_entry (DeleteCq q) id) ≡ Ok (DeleteCq q) }
-    ensures create_cq { (q n base id : ℕ) → q < 2 ^ 16 → 1 ≤ n → base < 2 ^ 64 → kind_or_fault (admin_entry (CreateCq q n base) id) ≡ Ok (CreateCq q n base) }
+    ensures create_cq { (q n base id : ℕ) (vector : Option ℕ) → q < 2 ^ 16 → 1 ≤ n → base < 2 ^ 64 → kind_or_fault (admin_entry (CreateCq q n base vector) id) ≡ Ok (CreateCq q n base vector) }
     ensures create_sq { (q n base id : ℕ) → q < 2 ^ 16 → 1 ≤ n → base < 2 ^ 64 → kind_or_fault (admin_entry (CreateSq q n base) id) ≡ Ok (CreateSq q n base) }
+{}
+
+/// Whether a completion queue is polled or has interrupts, and on which vector, decides nothing: whoever serves them, the controller's
+/// answer is the same.
+pub fn interrupts_decide_nothing()
+    ensures entries { (one other : SubEntry) (view : DeviceView) → one.opcode ≡ 0x05 → other.opcode ≡ 0x05 → one.fuse ≡ other.fuse → one.cdw10 ≡ other.cdw10 → one.cdw11 % 2 ≡ other.cdw11 % 2 → take 8 one.sgl1 ≡ take 8 other.sgl1 → decision one view ≡ decision other view }
+    ensures sent { (q n base id : ℕ) (vector : Option ℕ) (view : DeviceView) → decision (admin_entry (CreateCq q n base vector) id) view ≡ decision (admin_entry (CreateCq q n base None) id) view }
 {}
 
 /// What a controller does with an entry that is no creation (opcodes 01h and 05h) depends on the command that it asks for, and on no other

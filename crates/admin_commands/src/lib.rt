@@ -47,6 +47,8 @@ pub enum AdminKind {
         entries: u16,
         /// The address of its first byte, a multiple of 4,096.
         base: u64,
+        /// The vector of its interrupts; none where it is polled.
+        vector: Option<u16>,
     },
     /// Create I/O submission queue `q`, with a ring in consecutive pages, whose completions go to completion queue `q`.
     CreateSq {
@@ -133,8 +135,8 @@ pub enum AdminVerdict {
 /// The entry that the driver sends for an admin command, under an identifier of queue 0.
 ///
 /// What the profile names nothing for is zero (own): NSID, PSDT, FUSE, MPTR, CDW12 to CDW15, bits 31:16 of a deletion's CDW10, and DPTR and
-/// CDW11 but for a creation's base address, its bit "physically contiguous" and its completion queue. A ring of 0 entries, which is none,
-/// is written as one of 1.
+/// CDW11 but for a creation's base address, its bit "physically contiguous", its completion queue or its interrupts. A ring of 0 entries,
+/// which is none, is written as one of 1.
 pub fn entry(kind: AdminKind, cid: u16) -> SubEntry
     ensures entry { result ≡ admin_entry kind cid }
     ensures fits { FitsSubmission result }
@@ -182,13 +184,18 @@ fn named_by(kind: AdminKind) -> u32
     }
 }
 
-/// CDW11 of a creation: bit 0, "physically contiguous", and in bits 31:16 the completion queue of a submission queue.
+/// CDW11 of a creation: bit 0, "physically contiguous"; for a completion queue bit 1, "interrupts enabled", with the vector in bits 31:16;
+/// and for a submission queue in bits 31:16 its completion queue.
 fn qualified_by(kind: AdminKind) -> u32
     ensures { result ≡ qualified_by kind }
 {
     match kind {
         AdminKind::Abort { .. } | AdminKind::DeleteSq { .. } | AdminKind::DeleteCq { .. } => 0,
-        AdminKind::CreateCq { .. } => halves(1, 0),
+        AdminKind::CreateCq { vector: None, .. } => halves(1, 0),
+        AdminKind::CreateCq {
+            vector: Some(vector),
+            ..
+        } => halves(1 + 2, vector),
         AdminKind::CreateSq { q, .. } => halves(1, q),
     }
 }

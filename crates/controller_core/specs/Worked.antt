@@ -79,7 +79,7 @@ status_bytes st = slice_range (completion_bytes (completion_by 1 0 st 0 (record 
 
 -- the entries that make the I/O queue again, once it is deleted: its completion queue at 6000h, and its submission queue at 5000h
 abbrev pub create_cq : SubEntry
-create_cq = admin_entry (CreateCq 1 4 0x6000) 0
+create_cq = admin_entry (CreateCq 1 4 0x6000 None) 0
 
 abbrev pub create_sq : SubEntry
 create_sq = admin_entry (CreateSq 1 4 0x5000) 1

@@ -66,9 +66,9 @@ pub fn worked_creations()
 /// A completion queue that would begin inside a page, and one that would begin where the pool ends: invalid field; of the first
 /// it is said that nothing is made.
 pub fn worked_refused_creations()
-    ensures inside { (managed 8 (admin_entry (CreateCq 1 4 0x6010) 0) without_queue).commands ≡ command_of 0 (Admin (admin_entry (CreateCq 1 4 0x6010) 0) INVALID_FIELD 0) ∷ [] }
-    ensures behind { (managed 8 (admin_entry (CreateCq 1 4 0x8000) 0) without_queue).commands ≡ command_of 0 (Admin (admin_entry (CreateCq 1 4 0x8000) 0) INVALID_FIELD 0) ∷ [] }
-    ensures unmade { slice_get (managed 8 (admin_entry (CreateCq 1 4 0x6010) 0) without_queue).queues 1 ≡ slice_get without_queue.queues 1 }
+    ensures inside { (managed 8 (admin_entry (CreateCq 1 4 0x6010 None) 0) without_queue).commands ≡ command_of 0 (Admin (admin_entry (CreateCq 1 4 0x6010 None) 0) INVALID_FIELD 0) ∷ [] }
+    ensures behind { (managed 8 (admin_entry (CreateCq 1 4 0x8000 None) 0) without_queue).commands ≡ command_of 0 (Admin (admin_entry (CreateCq 1 4 0x8000 None) 0) INVALID_FIELD 0) ∷ [] }
+    ensures unmade { slice_get (managed 8 (admin_entry (CreateCq 1 4 0x6010 None) 0) without_queue).queues 1 ≡ slice_get without_queue.queues 1 }
 {}
 
 /// A Read in the midst of its walk and the Abort that stopped it are gone after a reset, and nothing is fetched of what stands in the rings.

@@ -49,7 +49,7 @@ abbrev pub is_of_jobs : Step → Bool
 is_of_jobs (step.Abort q cid) = false
 is_of_jobs (step.DeleteSq q) = false
 is_of_jobs (step.DeleteCq q) = false
-is_of_jobs (step.CreateCq q) = false
+is_of_jobs (step.CreateCq q vector) = false
 is_of_jobs (step.CreateSq q) = false
 is_of_jobs (step.Retire q) = false
 is_of_jobs (step.Forge q slot bytes) = false

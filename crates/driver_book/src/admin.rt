@@ -74,16 +74,21 @@ impl<L: FullLogBrand, A: Allocator + Copy> Book<L, A> {
     /// # Errors
     ///
     /// As there, and `Memory` where the log cannot grow.
-    pub fn create_cq(&mut self, q: u16) -> Result<u16, Refusal>
-        ensures step { Does self.old None (events.CreateCq q) (send_reply result) self.new }
-        ensures touches { Touches self.old.world.entries self.old.touches (events.CreateCq q) (send_reply result) self.new.touches }
+    pub fn create_cq(&mut self, q: u16, vector: Option<u16>) -> Result<u16, Refusal>
+        ensures step { Does self.old None (events.CreateCq q vector) (send_reply result) self.new }
+        ensures touches { Touches self.old.world.entries self.old.touches (events.CreateCq q vector) (send_reply result) self.new.touches }
         ensures memory { WantsMemoryFor (IsLogFull self.old) (send_reply result) }
     {
         let Ok(()) = self.log.make_room(0, 0) else {
             return Err(Refusal::Memory);
         };
-        let answer = self.world.create_cq(q);
-        note(&mut self.log, None, Step::CreateCq { q }, sent(&answer));
+        let answer = self.world.create_cq(q, vector);
+        note(
+            &mut self.log,
+            None,
+            Step::CreateCq { q, vector },
+            sent(&answer),
+        );
         answer
     }
 

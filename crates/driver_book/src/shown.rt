@@ -122,7 +122,10 @@ fn shown_step<'a>(pieces: &'a [Piece], drafts: &[KeptDraft], step: &KeptStep) ->
         Step::Abort { q, cid } => Step::Abort { q: *q, cid: *cid },
         Step::DeleteSq { q } => Step::DeleteSq { q: *q },
         Step::DeleteCq { q } => Step::DeleteCq { q: *q },
-        Step::CreateCq { q } => Step::CreateCq { q: *q },
+        Step::CreateCq { q, vector } => Step::CreateCq {
+            q: *q,
+            vector: *vector,
+        },
         Step::CreateSq { q } => Step::CreateSq { q: *q },
         Step::Retire { q } => Step::Retire { q: *q },
         Step::Forge { q, slot, bytes } => Step::Forge {

@@ -162,7 +162,7 @@ fn make<R: Abort + Wait>(rt: &R, alloc: Global, shared: &Shared<HostBench>, deed
         Deed::Ring(q) => Call::Ring { q },
         Deed::Reap(q) => Call::Reap { q },
         Deed::DeleteSq => Call::DeleteSq { q: 1 },
-        Deed::CreateCq => Call::CreateCq { q: 1 },
+        Deed::CreateCq => Call::CreateCq { q: 1, vector: None },
         Deed::CreateSq => Call::CreateSq { q: 1 },
         Deed::Retire => Call::Retire { q: 1 },
         Deed::Reset => Call::Reset,

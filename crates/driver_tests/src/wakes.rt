@@ -459,7 +459,7 @@ fn is_accepted<L: FullLogBrand, R: Wait>(
         Call::Complete(q) => shared.complete(rt, q, 0).is_ok(),
         Call::Reap(q) => shared.reap(rt, q).is_ok(),
         Call::DeleteSq(q) => shared.delete_sq(rt, q).is_ok(),
-        Call::CreateCq(q) => shared.create_cq(rt, q).is_ok(),
+        Call::CreateCq(q) => shared.create_cq(rt, q, None).is_ok(),
         Call::CreateSq(q) => shared.create_sq(rt, q).is_ok(),
         Call::Retire(q) => shared.retire(rt, q).is_ok(),
         Call::Forge(bytes) => shared.forge(rt, 1, 0, bytes).is_ok(),

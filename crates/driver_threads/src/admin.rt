@@ -52,11 +52,13 @@ impl<L: FullLogBrand, A: Allocator + Copy> Shared<L, A> {
     /// # Errors
     ///
     /// As there.
-    pub fn create_cq<R: Wait>(&self, rt: &R, q: u16) -> Result<u16, Refusal>
-        ensures { Made L.opening None (events.CreateCq q) (send_reply result) }
+    pub fn create_cq<R: Wait>(&self, rt: &R, q: u16, vector: Option<u16>) -> Result<u16, Refusal>
+        ensures { Made L.opening None (events.CreateCq q vector) (send_reply result) }
     {
         self.lock
-            .with(rt, Changes::ROOM, q, |book, q| book.create_cq(q))
+            .with(rt, Changes::ROOM, (q, vector), |book, (q, vector)| {
+                book.create_cq(q, vector)
+            })
     }
 
     /// [`driver_book::Book::create_sq`].

@@ -295,14 +295,14 @@ impl<A: Allocator + Copy> BenchTables<A> {
     }
 
     /// Sends the creation of a completion queue.
-    fn create_cq(&mut self, q: u16) -> ReplyIn<A>
+    fn create_cq(&mut self, q: u16, vector: Option<u16>) -> ReplyIn<A>
         requires over { IsOver self.old.host self.old.store.pages }
         requires bench { IsBench (state_of self.old) self.old.values }
-        ensures does { Does (table_of self.old) (Call.CreateCq q) result (table_of self.new) }
+        ensures does { Does (table_of self.old) (Call.CreateCq q vector) result (table_of self.new) }
         ensures over { IsOver self.new.host self.new.store.pages }
         ensures kept { IsBench (state_of self.new) self.new.values }
     {
-        match self.host.create_cq(&mut self.store, q) {
+        match self.host.create_cq(&mut self.store, q, vector) {
             Ok(cid) => Reply::Sent { cid },
             Err(why) => refused(why),
         }
@@ -370,7 +370,7 @@ impl<A: Allocator + Copy> BenchTables<A> {
             Call::Abort { q, cid } => self.abort(q, cid),
             Call::DeleteSq { q } => self.delete_sq(q),
             Call::DeleteCq { q } => self.delete_cq(q),
-            Call::CreateCq { q } => self.create_cq(q),
+            Call::CreateCq { q, vector } => self.create_cq(q, vector),
             Call::CreateSq { q } => self.create_sq(q),
             Call::Retire { q } => self.retire(q),
             Call::Reset => self.reset(),

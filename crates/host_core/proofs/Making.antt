@@ -96,11 +96,11 @@ gone-at t q gone = elim (option_is (slice_get t.queues q)) [
   | inr (x, at) ↦ (x, at, some_is (rw at at gone))
 ]
 
-pub create_cq-free : (t : Tables) (q : ℕ) → (q == 0) ≡ false → state_at t.queues q ≡ Some Gone → list_any (λ (r : Record). r.q == q) t.records ≡ false → first_passing (named_causes (state_of t) (CreateCq q 0 0)) ≡ None
+pub create_cq-free : (t : Tables) (q : ℕ) → (q == 0) ≡ false → state_at t.queues q ≡ Some Gone → list_any (λ (r : Record). r.q == q) t.records ≡ false → first_passing (named_causes (state_of t) (CreateCq q 0 0 None)) ≡ None
 create_cq-free t q zeroth gone free = let x = gone-at t q gone in rw (zeroth, slice_get-map host_queue_of t.queues q, x.1, x.2, any-count q t.records, free) refl
 
-pub create_cq-busy : (t : Tables) (q : ℕ) → (q == 0) ≡ false → state_at t.queues q ≡ Some Gone → list_any (λ (r : Record). r.q == q) t.records ≡ true → Refuses (state_of t) (events.CreateCq q) refusal.Outstanding []
-create_cq-busy t q zeroth gone busy = let x = gone-at t q gone in (rw (zeroth, slice_get-map host_queue_of t.queues q, x.1, x.2, any-count q t.records, busy) refl, refl)
+pub create_cq-busy : (t : Tables) (q : ℕ) (vector : Option ℕ) → (q == 0) ≡ false → state_at t.queues q ≡ Some Gone → list_any (λ (r : Record). r.q == q) t.records ≡ true → Refuses (state_of t) (events.CreateCq q vector) refusal.Outstanding []
+create_cq-busy t q vector zeroth gone busy = let x = gone-at t q gone in (rw (zeroth, slice_get-map host_queue_of t.queues q, x.1, x.2, any-count q t.records, busy) refl, refl)
 
 -- A queue is granted a half: the tables behind it, and the machine that they stand for.
 

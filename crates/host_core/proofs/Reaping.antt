@@ -226,7 +226,7 @@ abbrev pub Means : AdminKind → Tables → Type 0
 Means (Abort k cid) u = Unit {0}
 Means (DeleteSq k) u = (x : Queue) → slice_get u.queues k ≡ Some x → has_sq x.state ≡ true
 Means (DeleteCq k) u = (x : Queue) → slice_get u.queues k ≡ Some x → OwnsHalf u.owners (length u.pages) k Completion x
-Means (CreateCq k n base) u = Makes u k Completion MakingCq
+Means (CreateCq k n base vector) u = Makes u k Completion MakingCq
 Means (CreateSq k n base) u = Makes u k Submission MakingSq
 
 -- The machine's state
@@ -315,7 +315,7 @@ meant-state u (DeleteCq k) status size m = rw (alone-at u k) (elim (cases_Bool (
   | inl h ↦ let is = gives-alone u k status h in rw h (gone-state u k is.queue size (m is.queue is.at) is.at (alone_has_no_sq is.queue.state is.alone))
   | inr h ↦ rw h refl
 ])
-meant-state u (CreateCq k n base) status size m = elim (cases_Bool (is_success status)) [
+meant-state u (CreateCq k n base vector) status size m = elim (cases_Bool (is_success status)) [
   | inl h ↦ rw h (made-state u k m.queue m.at m.making)
   | inr h ↦ rw h (gone-state u k m.queue size m.owns m.at (ap has_sq m.making))
 ]
@@ -349,7 +349,7 @@ pub meant-settled : (u : Tables) (kind : AdminKind) (status : Status) → Settle
 meant-settled u (Abort k cid) status s m = s
 meant-settled u (DeleteSq k) status s m = settled-state u k (state_deleted status) s (has-deleted status) m
 meant-settled u (DeleteCq k) status s m = cond_both (gives_back k status u) _ _ Settled (λ _. settled-freed u k s) (λ _. s)
-meant-settled u (CreateCq k n base) status s m =
+meant-settled u (CreateCq k n base vector) status s m =
     cond_both (is_success status) _ _ Settled
     (λ _. settled-half_made u k u.owners s refl (making-cq u k Completion MakingCq refl m) (λ x at. (s.table.owners.queues_told k x at).completion)
     (λ j x far at. s.table.owners.queues_told j x at) s.table.owners.commands_told)
@@ -455,7 +455,7 @@ over-means t w q e (DeleteSq k) ends =
     λ x at. each-over (λ (j : ℕ) (y : Queue). k ≡ j → has_sq y.state ≡ true) q e.sqhd e.cid t.queues (λ j y h. h) (λ j y h. h)
     (λ j y at' same. asked_has_sq y.state (asked-at t w q e.cid k ends.entry ends.was ends.work y (subst (λ (i : ℕ). slice_get t.queues i ≡ Some y) (sym same) at'))) k x at refl
 over-means t w q e (DeleteCq k) ends = λ x at. over-owns t w q e k Completion x at
-over-means t w q e (CreateCq k n base) ends =
+over-means t w q e (CreateCq k n base vector) ends =
     let is = made-at t creates_cq_of is_making_cq q e.cid k ends.entry (w.host.sound.creations k).0 ends.was (ap (creates_cq_of k) ends.work ∙ eq-eqb k k refl) in
     over-makes t w q e k Completion MakingCq is.0 is.1 (making_cq_is is.0.state is.2)
 over-means t w q e (CreateSq k n base) ends =
@@ -470,7 +470,7 @@ over-has t h q e (DeleteCq k) entry was work = λ alone.
     let lists = each-over (λ (j : ℕ) (y : Queue). has_cq_alone y.state ≡ true → ListsAll (is_half j Completion) t.owners (pages_from y.host.cq (half_pages t.entries Completion))) q e.sqhd e.cid t.queues
     (λ j y f. f) (λ j y f. f) (λ j y at r. half-listed t h j Completion y at (alone_has_cq y.state r)) in
     record { queue = is.queue; at = is.at; lists = lists k is.queue is.at is.alone }
-over-has t h q e (CreateCq k n base) entry was work =
+over-has t h q e (CreateCq k n base vector) entry was work =
     let is = made-at t creates_cq_of is_making_cq q e.cid k entry (h.sound.creations k).0 was (ap (creates_cq_of k) work ∙ eq-eqb k k refl) in
     let there = over-there t q e k is.0 is.1 in
     let lists = each-over (λ (j : ℕ) (y : Queue). y.state ≡ MakingCq → ListsAll (is_half j Completion) t.owners (pages_from y.host.cq (half_pages t.entries Completion))) q e.sqhd e.cid t.queues

@@ -166,8 +166,8 @@ pub gives-meant : (t new : Tables) (kind : AdminKind) (k : ℕ) (status : Status
 gives-meant t new kind k status e s r is = rw (is, e, s, r) refl
 
 -- and where it does not make what it was to make
-pub unmade-cq : (t new : Tables) (kind : AdminKind) (k n base : ℕ) (status : Status) → kind ≡ CreateCq k n base → is_success status ≡ false → new ≡ without_completion k t → new ≡ meant kind status t
-unmade-cq t new kind k n base status e s is = rw (is, e, s) refl
+pub unmade-cq : (t new : Tables) (kind : AdminKind) (k n base : ℕ) (vector : Option ℕ) (status : Status) → kind ≡ CreateCq k n base vector → is_success status ≡ false → new ≡ without_completion k t → new ≡ meant kind status t
+unmade-cq t new kind k n base vector status e s is = rw (is, e, s) refl
 
 pub unmade-sq : (t new : Tables) (kind : AdminKind) (k n base : ℕ) (status : Status) → kind ≡ CreateSq k n base → is_success status ≡ false → new ≡ without_submission HalfMade k t → new ≡ meant kind status t
 unmade-sq t new kind k n base status e s is = rw (is, e, s) refl
@@ -177,7 +177,7 @@ pub meant-many : (t : Tables) (kind : AdminKind) (status : Status) → length (m
 meant-many t (Abort k cid) status = refl
 meant-many t (DeleteSq k) status = length-change k (with_state (state_deleted status)) t.queues
 meant-many t (DeleteCq k) status = cond_both (gives_back k status t) _ _ (λ (u : Tables). length u.queues ≡ length t.queues) (λ _. length-change k (with_state Gone) t.queues) (λ _. refl)
-meant-many t (CreateCq k n base) status =
+meant-many t (CreateCq k n base vector) status =
     cond_both (is_success status) _ _ (λ (u : Tables). length u.queues ≡ length t.queues) (λ _. length-change k (with_state HalfMade) t.queues)
     (λ _. length-change k (with_state Gone) t.queues)
 meant-many t (CreateSq k n base) status =

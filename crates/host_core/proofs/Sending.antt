@@ -158,12 +158,12 @@ settled-asked u kind s h = s
 
 send-after : (s : State) (kind : AdminKind) (cid : ℕ) → grants_none kind ≡ true → a.after s (sending kind) (events.Sent cid) ≡ asked_in kind (sent_in kind cid s)
 unfolding asked_in
-send-after s (CreateCq q n base) cid plain = cc
+send-after s (CreateCq q n base vector) cid plain = cc
 send-after s (CreateSq q n base) cid plain = cc
 send-after s kind cid plain = refl
 
 send-answers : (s : State) (kind : AdminKind) (cid : ℕ) → grants_none kind ≡ true → IsNewIdentifier s 0 cid → Answers s (sending kind) (events.Sent cid)
-send-answers s (CreateCq q n base) cid plain h = cc
+send-answers s (CreateCq q n base vector) cid plain h = cc
 send-answers s (CreateSq q n base) cid plain h = cc
 send-answers s kind cid plain h = h
 
@@ -171,9 +171,10 @@ is-hosts : (kind : AdminKind) → IsController (sending kind) ≡ false
 is-hosts (Abort q cid) = refl
 is-hosts kind = refl
 
-is-proper : (kind : AdminKind) → IsProper (sending kind)
-is-proper (Abort q cid) = tt
-is-proper kind = tt
+is-proper : (kind : AdminKind) → grants_none kind ≡ true → IsProper (sending kind)
+is-proper (CreateCq q n base vector) plain = cc
+is-proper (Abort q cid) plain = tt
+is-proper kind plain = tt
 
 pub send-exact : (t : Tables) (kind : AdminKind) (cid : ℕ) → IsWhole t → (can : CanSend t kind cid) → IsTyped (admin_entry kind cid)
     → Exactly (state_of t) (sending kind) (events.Sent cid) (state_of (asked kind (sent kind cid can.slot.queue t)))
@@ -188,13 +189,13 @@ pub send_made : (t new : Tables) (kind : AdminKind) (cid : ℕ) → IsWhole t �
     (sending kind) (events.Sent cid) new
 send_made t new kind cid w can is sends =
     let u : Tables = sent kind cid can.slot.queue t in
-    rw (sends can.slot.queue can.slot.at) (steps t (asked kind u) (sending kind) (events.Sent cid) w (is-hosts kind) (is-proper kind) (send-exact t kind cid w can is)
+    rw (sends can.slot.queue can.slot.at) (steps t (asked kind u) (sending kind) (events.Sent cid) w (is-hosts kind) (is-proper kind can.plain) (send-exact t kind cid w can is)
     (settled-asked u kind (settled-sent t kind cid (settled-of t w) can.slot (half-in t cid w can.slot) is) (asks-sent t kind cid can.slot.queue can.none)))
 
 -- What a refusal makes of it
 
-pub send-refused : (t : Tables) (kind : AdminKind) (why : Refusal) → Refuses (state_of t) (sending kind) why [] → Step (state_of t) (sending kind) (events.Refused why []) (state_of t)
-send-refused t kind why h = host_step t t (sending kind) (events.Refused why []) (is-hosts kind) (is-proper kind) (h, refl)
+pub send-refused : (t : Tables) (kind : AdminKind) (why : Refusal) → grants_none kind ≡ true → Refuses (state_of t) (sending kind) why [] → Step (state_of t) (sending kind) (events.Refused why []) (state_of t)
+send-refused t kind why plain h = host_step t t (sending kind) (events.Refused why []) (is-hosts kind) (is-proper kind plain) (h, refl)
 
 -- A sending as it is made: what is found before it, and what is written.
 
@@ -204,7 +205,7 @@ abbrev room_causes : State → List (Bool × Refusal)
 room_causes s = (no_identifier s 0, refusal.NoIdentifier) ∷ (queue_full s 0, refusal.QueueFull) ∷ []
 
 by-name : (s : State) (kind : AdminKind) → grants_none kind ≡ true → refusal_of s (sending kind) ≡ first_passing (named_causes s kind ++ room_causes s)
-by-name s (CreateCq q n base) plain = cc
+by-name s (CreateCq q n base vector) plain = cc
 by-name s (CreateSq q n base) plain = cc
 by-name s kind plain = refl
 

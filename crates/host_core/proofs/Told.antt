@@ -4,7 +4,7 @@ use Rattle.host_core.specs.Rows as declared
 use Rattle.machine_model.specs.Events as events
 use Rattle.machine_model.specs.declared.words.Refusal.TheVariants as refusal
 use Rattle.admin_commands.specs.declared.AdminKind.TheVariants as kinds
-use Rattle.std.proofs.Common.{◌≡◌, ℕ, suc, ◌+◌, ◌<◌, ◌≤◌, ◌==◌, nat_lt, le-ltb, find, option_map, Bool, true, false, not, ◌||◌, Some, None, List, [], ◌∷◌, ◌++◌, length, map, flat_map, filter, sum_by, slice_get, refl, ap, ap₂, sym, ◌∙◌, arith, subst, eqb-true, eq-eqb, lt-ltb, length-append, if◌then◌else◌, ◌&&◌, MatchBool, inl, inr}
+use Rattle.std.proofs.Common.{◌≡◌, ℕ, suc, ◌+◌, ◌<◌, ◌≤◌, ◌==◌, nat_lt, le-ltb, find, option_map, Bool, true, false, not, ◌||◌, Option, Some, None, List, [], ◌∷◌, ◌++◌, length, map, flat_map, filter, sum_by, slice_get, refl, ap, ap₂, sym, ◌∙◌, arith, subst, eqb-true, eq-eqb, lt-ltb, length-append, if◌then◌else◌, ◌&&◌, MatchBool, inl, inr}
 use Rattle.std.proofs.lemmas.{Bool.{cases_Bool, cond_both, or_left, or_right}, List.{take-append-drop, Sums.sum_by-cons}}
 use Rattle.std.specs.{List.{AllByRecursion, Contains}, Option.option_map_or}
 use Rattle.machine_model.proofs.{Counting.{one, times-cons, times-append, times-filter, times-pages, held_once, length_of_all}, Headline.firsts}
@@ -311,11 +311,11 @@ pub sending_refused : (kind : AdminKind) (why : Refusal) → refused_touches (se
 sending_refused (kinds.Abort q cid) why = refl
 sending_refused kind why = refl
 
-pub creating_refused : (half : Half) (q : ℕ) (why : Refusal) → refused_touches (creating half q) why ≡ 0
-creating_refused Completion q why = refl
-creating_refused Submission q why = refl
+pub creating_refused : (half : Half) (q : ℕ) (vector : Option ℕ) (why : Refusal) → refused_touches (creating half q vector) why ≡ 0
+creating_refused Completion q vector why = refl
+creating_refused Submission q vector why = refl
 
 -- a creation that is sent touches the page of its entry, and the pages of the half that is granted with it
-pub creating_sent : (n : ℕ) (half : Half) (q : ℕ) → sent_touches n (creating half q) ≡ half_pages n half + 1
-creating_sent n Completion q = refl
-creating_sent n Submission q = refl
+pub creating_sent : (n : ℕ) (half : Half) (q : ℕ) (vector : Option ℕ) → sent_touches n (creating half q vector) ≡ half_pages n half + 1
+creating_sent n Completion q vector = refl
+creating_sent n Submission q vector = refl

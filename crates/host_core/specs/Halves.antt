@@ -28,5 +28,5 @@ abbrev pub HasMeant : AdminKind → Tables → Type 0
 HasMeant (Abort q cid) t = Unit {0}
 HasMeant (DeleteSq q) t = Unit {0}
 HasMeant (DeleteCq q) t = passes has_cq_alone (state_at t.queues q) ≡ true → HasHalf t q Completion
-HasMeant (CreateCq q n base) t = HasHalf t q Completion
+HasMeant (CreateCq q n base vector) t = HasHalf t q Completion
 HasMeant (CreateSq q n base) t = HasHalf t q Submission

@@ -74,7 +74,7 @@ abbrev pub meant : AdminKind → Status → Tables → Tables
 meant (Abort q cid) status t = t
 meant (DeleteSq q) status t = record t { queues = change q (with_state (state_deleted status)) t.queues }
 meant (DeleteCq q) status t = if gives_back q status t then without_completion q t else t
-meant (CreateCq q n base) status t = if is_success status then record t { queues = change q (with_state HalfMade) t.queues } else without_completion q t
+meant (CreateCq q n base vector) status t = if is_success status then record t { queues = change q (with_state HalfMade) t.queues } else without_completion q t
 meant (CreateSq q n base) status t = if is_success status then record t { queues = change q (with_state Live) t.queues } else without_submission HalfMade q t
 
 -- the command of queue 0 that a command is

@@ -19,7 +19,7 @@ abbrev pub sending : AdminKind → Event
 sending (Abort q cid) = events.Abort q cid
 sending (DeleteSq q) = events.DeleteSq q
 sending (DeleteCq q) = events.DeleteCq q
-sending (CreateCq q n base) = events.CreateCq q
+sending (CreateCq q n base vector) = events.CreateCq q vector
 sending (CreateSq q n base) = events.CreateSq q
 
 -- whether a command is sent with no half granted before it
@@ -27,7 +27,7 @@ abbrev pub grants_none : AdminKind → Bool
 grants_none (Abort q cid) = true
 grants_none (DeleteSq q) = true
 grants_none (DeleteCq q) = true
-grants_none (CreateCq q n base) = false
+grants_none (CreateCq q n base vector) = false
 grants_none (CreateSq q n base) = false
 
 -- the record of an admin command that was just sent
@@ -48,7 +48,7 @@ abbrev pub asked : AdminKind → Tables → Tables
 asked (Abort q cid) t = t
 asked (DeleteSq q) t = record t { queues = change q (with_state (Deleting false)) t.queues }
 asked (DeleteCq q) t = t
-asked (CreateCq q n base) t = t
+asked (CreateCq q n base vector) t = t
 asked (CreateSq q n base) t = t
 
 -- a queue's side made anew over these halves
@@ -73,23 +73,23 @@ granted half q first t =
       queues = change q (making half first) t.queues;
     }
 
--- the call that makes a half, and the command that it sends
-abbrev pub creating : Half → ℕ → Event
-creating Completion q = events.CreateCq q
-creating Submission q = events.CreateSq q
+-- the call that makes a half, and the command that it sends; a completion half alone has a vector, or none
+abbrev pub creating : Half → ℕ → Option ℕ → Event
+creating Completion q vector = events.CreateCq q vector
+creating Submission q vector = events.CreateSq q
 
-abbrev pub creation : Half → (q entries first : ℕ) → AdminKind
-creation Completion q entries first = CreateCq q entries (4096 * first)
-creation Submission q entries first = CreateSq q entries (4096 * first)
+abbrev pub creation : Half → (q entries first : ℕ) → Option ℕ → AdminKind
+creation Completion q entries first vector = CreateCq q entries (4096 * first) vector
+creation Submission q entries first vector = CreateSq q entries (4096 * first)
 
 -- the tables that a sending leaves, by queue 0
 abbrev pub Sends : Tables → AdminKind → ℕ → Tables → Type 0
 Sends t kind cid new = (queue : Queue) → slice_get t.queues 0 ≡ Some queue → new ≡ asked kind (sent kind cid queue t)
 
 -- the tables that a creation leaves: the half is granted, and the command sent
-abbrev pub Creates : Tables → Half → (q cid first : ℕ) → Tables → Type 0
-Creates t half q cid first new =
-    (queue : Queue) → slice_get t.queues 0 ≡ Some queue → new ≡ sent (creation half q t.entries first) cid queue (granted half q first t)
+abbrev pub Creates : Tables → Half → (q : ℕ) → Option ℕ → (cid first : ℕ) → Tables → Type 0
+Creates t half q vector cid first new =
+    (queue : Queue) → slice_get t.queues 0 ≡ Some queue → new ≡ sent (creation half q t.entries first vector) cid queue (granted half q first t)
 
 -- what is against a command for the queue and the command that it names
 abbrev pub named_causes : State → AdminKind → List (Bool × Refusal)
@@ -103,7 +103,7 @@ named_causes s (DeleteCq q) =
     ((q == 0) || not (in_state has_cq s q), refusal.NoQueue)
     ∷ (in_state is_changing s q || (in_state has_cq_alone s q && cq_deletion_outstanding s q), refusal.WrongState)
     ∷ []
-named_causes s (CreateCq q n base) =
+named_causes s (CreateCq q n base vector) =
     (not (is_io_queue s q), refusal.NoQueue)
     ∷ (not (in_state is_gone s q), refusal.WrongState)
     ∷ (nat_lt 0 (length (outstanding_on s.host q)), refusal.Outstanding)
@@ -124,9 +124,9 @@ pub record CanSend (t : Tables) (kind : AdminKind) (cid : ℕ) : Type 0 where
   pub none : refusal_of (state_of t) (sending kind) ≡ None
   pub slot : HasSlot t cid
 
--- Nothing is against the making of a half, and the lowest run of free pages for it begins at this page.
+-- Nothing is against the making of a half, whatever its vector is, and the lowest run of free pages for it begins at this page.
 pub record CanCreate (t : Tables) (half : Half) (q cid first : ℕ) : Type 0 where
-  pub none : refusal_of (state_of t) (creating half q) ≡ None
+  pub none : (vector : Option ℕ) → refusal_of (state_of t) (creating half q vector) ≡ None
   pub slot : HasSlot t cid
   pub run : run_for (state_of t) half ≡ Some first
 

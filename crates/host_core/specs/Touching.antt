@@ -17,7 +17,7 @@ accepted_touches n events.Reset = half_pages n Submission + half_pages n Complet
 accepted_touches n e = 0
 
 abbrev pub sent_touches : ℕ → Event → ℕ
-sent_touches n (events.CreateCq q) = half_pages n Completion + 1
+sent_touches n (events.CreateCq q vector) = half_pages n Completion + 1
 sent_touches n (events.CreateSq q) = half_pages n Submission + 1
 sent_touches n e = 1
 

@@ -1,6 +1,6 @@
 //! The host makes a queue that is gone once more: first its completion queue, then its submission queue.
 
-ghost use Rattle.std.specs.Prelude.{◌≡◌, ◌==◌, ◌<◌, ◌+◌, [], None, Some, OnOk, IfOk, IfErr, find, is_some, length};
+ghost use Rattle.std.specs.Prelude.{◌≡◌, ◌==◌, ◌<◌, ◌+◌, ℕ, [], Option, None, Some, OnOk, IfOk, IfErr, find, is_some, length};
 ghost use Rattle.std.specs.List.{list_any};
 ghost use Rattle.admin_commands.specs.declared.AdminKind.TheVariants as kinds;
 ghost use Rattle.controller_walk.specs.Units.{first_passing};
@@ -64,8 +64,8 @@ impl<A: Allocator> HostTables<A> {
     /// Whether something of the named queue is against the creation of its completion queue.
     pub(crate) fn check_create_cq(&self, q: u16) -> Result<(), Refusal>
         requires { IsHost (tables_of self.now []) }
-        ensures free { OnOk result ((pages : Pages) → first_passing (named_causes (state_of (tables_of self.now pages)) (kinds.CreateCq q 0 0)) ≡ None) }
-        ensures refused { IfErr result (λ why. (pages : Pages) → Refuses (state_of (tables_of self.now pages)) (events.CreateCq q) why []) }
+        ensures free { OnOk result ((pages : Pages) → first_passing (named_causes (state_of (tables_of self.now pages)) (kinds.CreateCq q 0 0 None)) ≡ None) }
+        ensures refused { IfErr result (λ why. (pages : Pages) (vector : Option ℕ) → Refuses (state_of (tables_of self.now pages)) (events.CreateCq q vector) why []) }
     {
         if q == 0 {
             return Err(Refusal::NoQueue);
@@ -104,8 +104,8 @@ impl<A: Allocator> HostTables<A> {
     /// Whether something of the named queue is against the making of its half.
     fn check_half(&self, q: u16, half: Half) -> Result<(), Refusal>
         requires { IsHost (tables_of self.now []) }
-        ensures free { OnOk result ((pages : Pages) → first_passing (named_causes (state_of (tables_of self.now pages)) (creation half q 0 0)) ≡ None) }
-        ensures refused { IfErr result (λ why. (pages : Pages) → Refuses (state_of (tables_of self.now pages)) (creating half q) why []) }
+        ensures free { OnOk result ((pages : Pages) → first_passing (named_causes (state_of (tables_of self.now pages)) (creation half q 0 0 None)) ≡ None) }
+        ensures refused { IfErr result (λ why. (pages : Pages) (vector : Option ℕ) → Refuses (state_of (tables_of self.now pages)) (creating half q vector) why []) }
     {
         match half {
             Half::Completion => self.check_create_cq(q),
@@ -117,7 +117,7 @@ impl<A: Allocator> HostTables<A> {
     fn check_create(&self, q: u16, half: Half) -> Result<Creation, Refusal>
         requires { IsHost (tables_of self.now []) }
         ensures ready { IfOk result (λ creation. Over self.now (λ t. CanCreate t half q creation.cid creation.first)) }
-        ensures refused { IfErr result (λ why. Over self.now (λ t. Refuses (state_of t) (creating half q) why [])) }
+        ensures refused { IfErr result (λ why. Over self.now (λ t. (vector : Option ℕ) → Refuses (state_of t) (creating half q vector) why [])) }
     {
         match self.check_half(q, half) {
             Ok(()) => {}
@@ -155,14 +155,19 @@ fn make<A: Allocator>(queue: &mut Queue<HostPair<A>>, half: Half, first: PageNo)
     }
 }
 
-/// The command that makes a half of a queue, of so many entries, from a page on.
-fn command(half: Half, q: u16, entries: u16, first: PageNo) -> AdminKind
+/// The command that makes a half of a queue, of so many entries, from a page on; a completion half is polled, or has interrupts on a vector.
+fn command(half: Half, q: u16, entries: u16, first: PageNo, vector: Option<u16>) -> AdminKind
     requires { first < 65536 }
-    ensures { result ≡ creation half q entries first }
+    ensures { result ≡ creation half q entries first vector }
 {
     let base = PAGE_BYTES as u64 * u64::from(first.0);
     match half {
-        Half::Completion => AdminKind::CreateCq { q, entries, base },
+        Half::Completion => AdminKind::CreateCq {
+            q,
+            entries,
+            base,
+            vector,
+        },
         Half::Submission => AdminKind::CreateSq { q, entries, base },
     }
 }
@@ -185,15 +190,22 @@ impl<A: Allocator + Copy> HostTables<A> {
     }
 
     /// Grants the half, and sends the command that makes it.
-    fn commit_create(&mut self, store: &mut Store<A>, q: u16, half: Half, creation: Creation)
+    fn commit_create(
+        &mut self,
+        store: &mut Store<A>,
+        q: u16,
+        half: Half,
+        vector: Option<u16>,
+        creation: Creation,
+    )
         requires whole { IsWhole (tables_of self.old store.old.pages) }
         requires ready { CanCreate (tables_of self.old store.old.pages) half q creation.cid creation.first }
-        ensures creates { Creates (tables_of self.old store.old.pages) half q creation.cid creation.first (tables_of self.new store.new.pages) }
+        ensures creates { Creates (tables_of self.old store.old.pages) half q vector creation.cid creation.first (tables_of self.new store.new.pages) }
         ensures touches { TouchesBy (pages_of_half self.old.entries half + 1) store.old store.new }
     {
         let Creation { cid, first } = creation;
         self.grant_half(store, q, half, first);
-        let kind = command(half, q, self.entries, first);
+        let kind = command(half, q, self.entries, first, vector);
         self.note_sent(kind, cid);
         self.post(store, 0, entry(kind, cid));
     }
@@ -201,10 +213,16 @@ impl<A: Allocator + Copy> HostTables<A> {
 
 impl<A: Allocator + Copy> Host<A> {
     /// Makes a half of a queue, where nothing is against it.
-    fn create(&mut self, store: &mut Store<A>, q: u16, half: Half) -> Result<u16, Refusal>
+    fn create(
+        &mut self,
+        store: &mut Store<A>,
+        q: u16,
+        half: Half,
+        vector: Option<u16>,
+    ) -> Result<u16, Refusal>
         requires { IsOver self.old store.old.pages }
-        ensures step { HostStep self.old store.old.pages (creating half q) (send_reply result) self.new store.new.pages }
-        ensures touches { HostTouches self.old.entries store.old (creating half q) (send_reply result) store.new }
+        ensures step { HostStep self.old store.old.pages (creating half q vector) (send_reply result) self.new store.new.pages }
+        ensures touches { HostTouches self.old.entries store.old (creating half q vector) (send_reply result) store.new }
         ensures identifier { IfOk result (λ id. IsLowest self.old.host 0 id) }
         ensures over { IsOver self.new store.new.pages }
     {
@@ -213,27 +231,33 @@ impl<A: Allocator + Copy> Host<A> {
             Err(why) => return Err(why),
         };
         let cid = creation.cid;
-        self.parts.commit_create(store, q, half, creation);
+        self.parts.commit_create(store, q, half, vector, creation);
         Ok(cid)
     }
 
     /// Makes the completion queue of a queue that is gone (NVM Express Base Specification 2.0, "Create I/O Completion Queue command",
     /// section 5.4): its half is granted, in and zero, and the command that creates it stands behind the tail of queue 0 under the
-    /// identifier that is answered, the lowest that is free.
+    /// identifier that is answered, the lowest that is free. It has interrupts on a vector, or is polled: the command tells the device so, and
+    /// interrupts are the caller's.
     ///
     /// # Errors
     ///
     /// Nothing changed. 1. `NoQueue` for queue 0 and an unknown queue. 2. `WrongState` where the queue is not gone. 3. `Outstanding` where a
     /// command of the queue is outstanding. 4. `NoIdentifier` where each identifier of queue 0 is outstanding. 5. `NoRun` where no run of so
     /// many consecutive pages is free. 6. `QueueFull` where the submission ring of queue 0 is full.
-    pub fn create_cq(&mut self, store: &mut Store<A>, q: u16) -> Result<u16, Refusal>
+    pub fn create_cq(
+        &mut self,
+        store: &mut Store<A>,
+        q: u16,
+        vector: Option<u16>,
+    ) -> Result<u16, Refusal>
         requires { IsOver self.old store.old.pages }
-        ensures step { HostStep self.old store.old.pages (events.CreateCq q) (send_reply result) self.new store.new.pages }
-        ensures touches { HostTouches self.old.entries store.old (events.CreateCq q) (send_reply result) store.new }
+        ensures step { HostStep self.old store.old.pages (events.CreateCq q vector) (send_reply result) self.new store.new.pages }
+        ensures touches { HostTouches self.old.entries store.old (events.CreateCq q vector) (send_reply result) store.new }
         ensures identifier { IfOk result (λ id. IsLowest self.old.host 0 id) }
         ensures over { IsOver self.new store.new.pages }
     {
-        self.create(store, q, Half::Completion)
+        self.create(store, q, Half::Completion, vector)
     }
 
     /// Makes the submission queue of a queue that is half made (NVM Express Base Specification 2.0, "Create I/O Submission Queue
@@ -252,6 +276,6 @@ impl<A: Allocator + Copy> Host<A> {
         ensures identifier { IfOk result (λ id. IsLowest self.old.host 0 id) }
         ensures over { IsOver self.new store.new.pages }
     {
-        self.create(store, q, Half::Submission)
+        self.create(store, q, Half::Submission, None)
     }
 }

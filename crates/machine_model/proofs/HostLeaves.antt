@@ -46,8 +46,8 @@ host_leaves s e reply ok c =
       hears = λ q cid st what e r adm t heard w quiet unmade. left s _ refl refl refl refl (λ d. d) refl;
       notes = λ q cid st what e r k t heard w. left s _ refl refl refl refl (λ d. d) refl;
       frees = λ q cid st what e r k queue t heard w at retired good. left s _ refl refl refl refl (λ d. d) refl;
-      makes_cq = λ q cid st what e r k size base t heard w good. left s _ refl refl refl refl (λ d. d) refl;
-      unmakes_cq = λ q cid st what e r k size base queue t heard w at bad. left s _ refl refl refl refl (λ d. d) refl;
+      makes_cq = λ q cid st what e r k size base vector t heard w good. left s _ refl refl refl refl (λ d. d) refl;
+      unmakes_cq = λ q cid st what e r k size base vector queue t heard w at bad. left s _ refl refl refl refl (λ d. d) refl;
       makes_sq = λ q cid st what e r k size base t heard w good. left s _ refl refl refl refl (λ d. d) refl;
       unmakes_sq = λ q cid st what e r k size base queue t heard w at bad. left s _ refl refl refl refl (λ d. d) refl;
       collects = λ q cid r f at held is. left s _ refl refl refl refl (λ d. d) (length-without_pages (pages_of r) s.memory);
@@ -55,7 +55,7 @@ host_leaves s e reply ok c =
       aborts = λ q cid id none new. sent (Abort q cid) id s;
       asks = λ q id queue none new live. left s _ refl refl refl refl (λ d. d) (sent {e = events.DeleteSq q} (DeleteSq q) id s).size;
       drops = λ q id none new. sent (DeleteCq q) id s;
-      creates_cqs = λ q id first queue none new granted. left s _ refl refl refl refl (λ d. d) ((sent {e = events.CreateCq q} (creates_cq q first s) id (grants_cq q first s)).size ∙ length-with_pages (zeroed_pages (half_from Completion first s)) s.memory);
+      creates_cqs = λ q vector id first queue none new granted. left s _ refl refl refl refl (λ d. d) ((sent {e = events.CreateCq q vector} (creates_cq q vector first s) id (grants_cq q first s)).size ∙ length-with_pages (zeroed_pages (half_from Completion first s)) s.memory);
       creates_sqs = λ q id first queue none new granted. left s _ refl refl refl refl (λ d. d) ((sent {e = events.CreateSq q} (creates_sq q first s) id (grants_sq q first s)).size ∙ length-with_pages (zeroed_pages (half_from Submission first s)) s.memory);
       retires = λ q queue none at deleted. left s _ refl refl refl refl (λ d. d) refl;
       forges = λ q slot bytes queue none at. left s _ refl refl refl refl (λ d. refl) (length-set s.memory (slot_page queue.cq_pages 16 slot) _);

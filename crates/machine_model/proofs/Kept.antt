@@ -58,9 +58,9 @@ pub asked_as_heard : (s : State) (q cid : ℕ) (st : Status) (e : ComEntry) (r :
 asked_as_heard s q cid st e r k holds heard w x ex =
     asked_is x.state (heard_waits deletes_sq_of is_asked s q cid st e r k holds (deletions_awaited s.host holds.deletions) heard (ap (deletes_sq_of k) w ∙ eq-eqb k k refl) x ex)
 
-pub making_cq_as_heard : (s : State) (q cid : ℕ) (st : Status) (e : ComEntry) (r : Record) (k n base : ℕ) → HoldsPart (host_part s) → IsHeard s q cid st e r → r.work ≡ Management (CreateCq k n base)
+pub making_cq_as_heard : (s : State) (q cid : ℕ) (st : Status) (e : ComEntry) (r : Record) (k n base : ℕ) (vector : Option ℕ) → HoldsPart (host_part s) → IsHeard s q cid st e r → r.work ≡ Management (CreateCq k n base vector)
     → (x : HostQueue) → slice_get (a.heard q e s).host.queues k ≡ Some x → x.state ≡ MakingCq
-making_cq_as_heard s q cid st e r k n base holds heard w x ex =
+making_cq_as_heard s q cid st e r k n base vector holds heard w x ex =
     making_cq_is x.state (heard_waits creates_cq_of is_making_cq s q cid st e r k holds (completions_awaited s.host holds.creations) heard (ap (creates_cq_of k) w ∙ eq-eqb k k refl) x ex)
 
 pub making_sq_as_heard : (s : State) (q cid : ℕ) (st : Status) (e : ComEntry) (r : Record) (k n base : ℕ) → HoldsPart (host_part s) → IsHeard s q cid st e r → r.work ≡ Management (CreateSq k n base)
@@ -91,12 +91,12 @@ pub record Waits (of : ℕ → Work → Bool) (test : HostState → Bool) : Type
   pub drops : (z k : ℕ) → of z (Management (DeleteCq k)) ≡ false
   -- a queue waits for a command that names it alone
   pub deletes : (z k : ℕ) → (k == z) ≡ false → of z (Management (DeleteSq k)) ≡ false
-  pub creates_cq : (z k n base : ℕ) → (k == z) ≡ false → of z (Management (CreateCq k n base)) ≡ false
+  pub creates_cq : (z k n base : ℕ) (vector : Option ℕ) → (k == z) ≡ false → of z (Management (CreateCq k n base vector)) ≡ false
   pub creates_sq : (z k n base : ℕ) → (k == z) ≡ false → of z (Management (CreateSq k n base)) ≡ false
   pub kinds : (z : ℕ) (w : Work) → of z w ≡ true → (deletes_sq_of z w || (creates_cq_of z w || creates_sq_of z w)) ≡ true
   -- in the state that waits
   pub asked : (k : ℕ) → of k (Management (DeleteSq k)) ≡ test (Deleting false)
-  pub making_cq : (k n base : ℕ) → of k (Management (CreateCq k n base)) ≡ test MakingCq
+  pub making_cq : (k n base : ℕ) (vector : Option ℕ) → of k (Management (CreateCq k n base vector)) ≡ test MakingCq
   pub making_sq : (k n base : ℕ) → of k (Management (CreateSq k n base)) ≡ test MakingSq
   -- and in no other
   pub live : test Live ≡ false
@@ -131,10 +131,10 @@ awaited_event of test waits s e reply ok c holds h =
           awaited_same of test (without_record q cid s.host.records) a.gone k (a.heard q e s).host.queues
           (λ y ey. let same : queue ≡ y = cc (at, ey) in waits.gone ∙ sym (grind (arith, waits, ap (λ (x : HostQueue). has_cq_alone x.state) (sym same) ∙ alone)))
           (awaited_less of test s.host.records (a.heard q e s).host.queues q cid r heard.found (holds.once q cid) (λ z. ap (of z) w ∙ waits.drops z k) (told q e));
-      makes_cq = λ q cid st what e r k n base t heard w good.
-          ends q cid st e r k a.half_made heard (λ z far. ap (of z) w ∙ waits.creates_cq z k n base far) MakingCq (making_cq_as_heard s q cid st e r k n base holds heard w) (ap (of k) w ∙ waits.making_cq k n base) (λ x. waits.half_made);
-      unmakes_cq = λ q cid st what e r k n base queue t heard w at bad.
-          ends q cid st e r k a.gone heard (λ z far. ap (of z) w ∙ waits.creates_cq z k n base far) MakingCq (making_cq_as_heard s q cid st e r k n base holds heard w) (ap (of k) w ∙ waits.making_cq k n base) (λ x. waits.gone);
+      makes_cq = λ q cid st what e r k n base vector t heard w good.
+          ends q cid st e r k a.half_made heard (λ z far. ap (of z) w ∙ waits.creates_cq z k n base vector far) MakingCq (making_cq_as_heard s q cid st e r k n base vector holds heard w) (ap (of k) w ∙ waits.making_cq k n base vector) (λ x. waits.half_made);
+      unmakes_cq = λ q cid st what e r k n base vector queue t heard w at bad.
+          ends q cid st e r k a.gone heard (λ z far. ap (of z) w ∙ waits.creates_cq z k n base vector far) MakingCq (making_cq_as_heard s q cid st e r k n base vector holds heard w) (ap (of k) w ∙ waits.making_cq k n base vector) (λ x. waits.gone);
       makes_sq = λ q cid st what e r k n base t heard w good.
           ends q cid st e r k a.live heard (λ z far. ap (of z) w ∙ waits.creates_sq z k n base far) MakingSq (making_sq_as_heard s q cid st e r k n base holds heard w) (ap (of k) w ∙ waits.making_sq k n base) (λ x. waits.live);
       unmakes_sq = λ q cid st what e r k n base queue t heard w at bad.
@@ -147,10 +147,10 @@ awaited_event of test waits s e reply ok c holds h =
           starts q a.deleting (DeleteSq q) id (change 0 (λ x. record x { ring = next_tail s.entries x.ring }) s.host.queues) y.0 y.1 (λ z far. waits.deletes z q far) (ap test (y.2 ∙ live.live) ∙ waits.live) (waits.asked q)
           (awaited_ring of test s.host.records s.host.queues 0 (next_tail s.entries) h);
       drops = λ q id none new. sent (DeleteCq q) id (λ z. waits.drops z q);
-      creates_cqs = λ q id first queue none new granted.
-          let adm = creates_cq q first s in
+      creates_cqs = λ q vector id first queue none new granted.
+          let adm = creates_cq q vector first s in
           awaited_ring of test (s.host.records ++ sent_record adm id ∷ []) (grants_cq q first s).host.queues 0 (next_tail s.entries)
-          (starts q (a.making_cq (half_from Completion first s)) adm id s.host.queues queue granted.there (λ z far. waits.creates_cq z q s.entries _ far) (ap test granted.state ∙ waits.gone) (waits.making_cq q s.entries _) h);
+          (starts q (a.making_cq (half_from Completion first s)) adm id s.host.queues queue granted.there (λ z far. waits.creates_cq z q s.entries _ vector far) (ap test granted.state ∙ waits.gone) (waits.making_cq q s.entries _ vector) h);
       creates_sqs = λ q id first queue none new granted.
           let adm = creates_sq q first s in
           awaited_ring of test (s.host.records ++ sent_record adm id ∷ []) (grants_sq q first s).host.queues 0 (next_tail s.entries)
@@ -233,8 +233,8 @@ zero_host s e reply ok c holds =
           zero_past k (λ queue. record queue { state = if is_success st then Deleting true else Live }) (a.heard q e s).host.queues (λ x ex. ap is_live (asked_as_heard s q cid st e r k holds heard w x ex)) (told q e);
       frees = λ q cid st what e r k queue t heard w at alone good.
           zero_past k a.gone (a.heard q e s).host.queues (λ x ex. let same : queue ≡ x = cc (at, ex) in subst (λ (y : HostQueue). is_live y.state ≡ false) same (grind arith)) (told q e);
-      makes_cq = λ q cid st what e r k n base t heard w good. zero_past k a.half_made (a.heard q e s).host.queues (λ x ex. ap is_live (making_cq_as_heard s q cid st e r k n base holds heard w x ex)) (told q e);
-      unmakes_cq = λ q cid st what e r k n base queue t heard w at bad. zero_past k a.gone (a.heard q e s).host.queues (λ x ex. ap is_live (making_cq_as_heard s q cid st e r k n base holds heard w x ex)) (told q e);
+      makes_cq = λ q cid st what e r k n base vector t heard w good. zero_past k a.half_made (a.heard q e s).host.queues (λ x ex. ap is_live (making_cq_as_heard s q cid st e r k n base vector holds heard w x ex)) (told q e);
+      unmakes_cq = λ q cid st what e r k n base vector queue t heard w at bad. zero_past k a.gone (a.heard q e s).host.queues (λ x ex. ap is_live (making_cq_as_heard s q cid st e r k n base vector holds heard w x ex)) (told q e);
       makes_sq = λ q cid st what e r k n base t heard w good. zero_past k a.live (a.heard q e s).host.queues (λ x ex. ap is_live (making_sq_as_heard s q cid st e r k n base holds heard w x ex)) (told q e);
       unmakes_sq = λ q cid st what e r k n base queue t heard w at bad. zero_past k a.unmade_sq (a.heard q e s).host.queues (λ x ex. ap is_live (making_sq_as_heard s q cid st e r k n base holds heard w x ex)) (told q e);
       collects = λ q cid r f at held is. h;
@@ -243,7 +243,7 @@ zero_host s e reply ok c holds =
       asks = λ q id queue none new live.
           zero_change q a.deleting (change 0 (λ x. record x { ring = next_tail s.entries x.ring }) s.host.queues) (λ x e z l. absurd (true≢false (sym (subst (λ (k : ℕ). (k == 0) ≡ true) (sym z) refl) ∙ live.other))) sent;
       drops = λ q id none new. sent;
-      creates_cqs = λ q id first queue none new granted.
+      creates_cqs = λ q vector id first queue none new granted.
           zero_ring 0 (next_tail s.entries) (change q (a.making_cq (half_from Completion first s)) s.host.queues)
           (zero_past q (a.making_cq (half_from Completion first s)) s.host.queues (λ x ex. let same : queue ≡ x = cc (granted.there, ex) in ap (λ (y : HostQueue). is_live y.state) (sym same) ∙ ap is_live granted.state) h);
       creates_sqs = λ q id first queue none new granted.
@@ -367,12 +367,12 @@ halves_event s e reply ok c holds =
       frees = λ q cid st what e r k queue t heard w at alone good.
           all_changed HasNoOtherPages k a.gone (a.heard q e s).host.queues
           (λ x ex p. let same : queue ≡ x = cc (at, ex) in record { submission = λ no. p.submission (ap (λ (y : HostQueue). has_sq y.state) (sym same) ∙ alone_has_no_sq queue.state alone); completion = λ no. refl }) (told q e);
-      makes_cq = λ q cid st what e r k n base t heard w good.
+      makes_cq = λ q cid st what e r k n base vector t heard w good.
           all_changed HasNoOtherPages k a.half_made (a.heard q e s).host.queues
-          (λ x ex p. record { submission = λ no. p.submission (ap has_sq (making_cq_as_heard s q cid st e r k n base holds heard w x ex)); completion = λ no. absurd (true≢false no) }) (told q e);
-      unmakes_cq = λ q cid st what e r k n base queue t heard w at bad.
+          (λ x ex p. record { submission = λ no. p.submission (ap has_sq (making_cq_as_heard s q cid st e r k n base vector holds heard w x ex)); completion = λ no. absurd (true≢false no) }) (told q e);
+      unmakes_cq = λ q cid st what e r k n base vector queue t heard w at bad.
           all_changed HasNoOtherPages k a.gone (a.heard q e s).host.queues
-          (λ x ex p. record { submission = λ no. p.submission (ap has_sq (making_cq_as_heard s q cid st e r k n base holds heard w x ex)); completion = λ no. refl }) (told q e);
+          (λ x ex p. record { submission = λ no. p.submission (ap has_sq (making_cq_as_heard s q cid st e r k n base vector holds heard w x ex)); completion = λ no. refl }) (told q e);
       makes_sq = λ q cid st what e r k n base t heard w good. all_changed HasNoOtherPages k a.live (a.heard q e s).host.queues (λ x ex p. whole (a.live x) refl refl) (told q e);
       unmakes_sq = λ q cid st what e r k n base queue t heard w at bad.
           all_changed HasNoOtherPages k a.unmade_sq (a.heard q e s).host.queues (λ x ex p. record { submission = λ no. refl; completion = λ no. absurd (true≢false no) }) (told q e);
@@ -381,7 +381,7 @@ halves_event s e reply ok c holds =
       aborts = λ q cid id none new. sent;
       asks = λ q id queue none new live. all_changed HasNoOtherPages q a.deleting (change 0 (λ x. record x { ring = next_tail s.entries x.ring }) s.host.queues) (λ x ex p. whole (a.deleting x) refl refl) sent;
       drops = λ q id none new. sent;
-      creates_cqs = λ q id first queue none new granted.
+      creates_cqs = λ q vector id first queue none new granted.
           fit_ring 0 (next_tail s.entries) (change q (a.making_cq (half_from Completion first s)) s.host.queues)
           (all_changed HasNoOtherPages q (a.making_cq (half_from Completion first s)) s.host.queues
           (λ x ex p. let same : queue ≡ x = cc (granted.there, ex) in record { submission = λ no. p.submission (ap (λ (y : HostQueue). has_sq y.state) (sym same) ∙ ap has_sq granted.state); completion = λ no. absurd (true≢false no) }) h);
@@ -479,9 +479,9 @@ bare_of s e reply ok c holds =
           used q cid e k (λ queue. record queue { state = if is_success st then Deleting true else Live })
           (λ x. (elim (is_success st) as (λ b. is_making (if b then Deleting true else Live) ≡ false) [ true ↦ refl | false ↦ refl ]));
       frees = λ q cid st what e r k queue t heard w at alone good. used q cid e k a.gone (λ x. refl);
-      makes_cq = λ q cid st what e r k n base t heard w good.
-          bare_change _ k a.half_made (a.heard q e s).host.queues (λ x ex m. ap is_making (making_cq_as_heard s q cid st e r k n base holds heard w x ex)) (ended q cid e);
-      unmakes_cq = λ q cid st what e r k n base queue t heard w at bad. used q cid e k a.gone (λ x. refl);
+      makes_cq = λ q cid st what e r k n base vector t heard w good.
+          bare_change _ k a.half_made (a.heard q e s).host.queues (λ x ex m. ap is_making (making_cq_as_heard s q cid st e r k n base vector holds heard w x ex)) (ended q cid e);
+      unmakes_cq = λ q cid st what e r k n base vector queue t heard w at bad. used q cid e k a.gone (λ x. refl);
       makes_sq = λ q cid st what e r k n base t heard w good. used q cid e k a.live (λ x. refl);
       unmakes_sq = λ q cid st what e r k n base queue t heard w at bad.
           bare_change _ k a.unmade_sq (a.heard q e s).host.queues (λ x ex m. ap is_making (making_sq_as_heard s q cid st e r k n base holds heard w x ex)) (ended q cid e);
@@ -491,10 +491,10 @@ bare_of s e reply ok c holds =
       asks = λ q id queue none new live.
           bare_change _ q a.deleting (change 0 (λ x. record x { ring = next_tail s.entries x.ring }) s.host.queues) (λ x ex m. absurd (true≢false (sym m))) (sent (DeleteSq q) id s.host.queues zero_used h);
       drops = λ q id none new. sent (DeleteCq q) id s.host.queues zero_used h;
-      creates_cqs = λ q id first queue none new granted.
+      creates_cqs = λ q vector id first queue none new granted.
           let with_half = a.making_cq (half_from Completion first s) in
-          sent (creates_cq q first s) id (change q with_half s.host.queues) (still_used q with_half granted.other)
-          (bare_begins s.host.records q with_half s.host.queues (nothing_on q (unrefused s (events.CreateCq q) none).1.1.0) h);
+          sent (creates_cq q vector first s) id (change q with_half s.host.queues) (still_used q with_half granted.other)
+          (bare_begins s.host.records q with_half s.host.queues (nothing_on q (unrefused s (events.CreateCq q vector) none).1.1.0) h);
       creates_sqs = λ q id first queue none new granted.
           let with_half = a.making_sq (half_from Submission first s) in
           sent (creates_sq q first s) id (change q with_half s.host.queues) (still_used q with_half granted.other)

@@ -84,8 +84,8 @@ grants_cq q first s = a.on_host_queue q (a.making_cq (half_from Completion first
 abbrev pub grants_sq : ℕ → ℕ → State → State
 grants_sq q first s = a.on_host_queue q (a.making_sq (half_from Submission first s)) (a.half_granted (half_from Submission first s) s)
 
-abbrev pub creates_cq : ℕ → ℕ → State → AdminKind
-creates_cq q first s = CreateCq q s.entries (a.base_of (half_from Completion first s))
+abbrev pub creates_cq : ℕ → Option ℕ → ℕ → State → AdminKind
+creates_cq q vector first s = CreateCq q s.entries (a.base_of (half_from Completion first s)) vector
 
 abbrev pub creates_sq : ℕ → ℕ → State → AdminKind
 creates_sq q first s = CreateSq q s.entries (a.base_of (half_from Submission first s))
@@ -137,10 +137,10 @@ pub record HostMoves (P : Event → Reply → State → Type 0) (s : State) : Ty
       → P (events.Reap q) (events.Reaps what) (a.on_host_queue k (λ queue. record queue { state = if is_success st then Deleting true else Live }) (heard_without q cid e s))
   pub frees : (q cid : ℕ) (st : Status) (what : Reaped) (e : ComEntry) (r : Record) (k : ℕ) (queue : HostQueue) → ReapTells s q cid st what → IsHeard s q cid st e r → r.work ≡ Management (DeleteCq k)
       → host_queue (a.heard q e s) k ≡ Some queue → has_cq_alone queue.state ≡ true → is_success st ≡ true → P (events.Reap q) (events.Reaps what) (a.on_host_queue k a.gone (a.given_back queue.cq_pages (heard_without q cid e s)))
-  pub makes_cq : (q cid : ℕ) (st : Status) (what : Reaped) (e : ComEntry) (r : Record) (k n base : ℕ) → ReapTells s q cid st what → IsHeard s q cid st e r → r.work ≡ Management (CreateCq k n base)
+  pub makes_cq : (q cid : ℕ) (st : Status) (what : Reaped) (e : ComEntry) (r : Record) (k n base : ℕ) (vector : Option ℕ) → ReapTells s q cid st what → IsHeard s q cid st e r → r.work ≡ Management (CreateCq k n base vector)
       → is_success st ≡ true → P (events.Reap q) (events.Reaps what) (a.on_host_queue k a.half_made (heard_without q cid e s))
-  pub unmakes_cq : (q cid : ℕ) (st : Status) (what : Reaped) (e : ComEntry) (r : Record) (k n base : ℕ) (queue : HostQueue) → ReapTells s q cid st what → IsHeard s q cid st e r
-      → r.work ≡ Management (CreateCq k n base) → host_queue (a.heard q e s) k ≡ Some queue → is_success st ≡ false
+  pub unmakes_cq : (q cid : ℕ) (st : Status) (what : Reaped) (e : ComEntry) (r : Record) (k n base : ℕ) (vector : Option ℕ) (queue : HostQueue) → ReapTells s q cid st what → IsHeard s q cid st e r
+      → r.work ≡ Management (CreateCq k n base vector) → host_queue (a.heard q e s) k ≡ Some queue → is_success st ≡ false
       → P (events.Reap q) (events.Reaps what) (a.on_host_queue k a.gone (a.given_back queue.cq_pages (heard_without q cid e s)))
   pub makes_sq : (q cid : ℕ) (st : Status) (what : Reaped) (e : ComEntry) (r : Record) (k n base : ℕ) → ReapTells s q cid st what → IsHeard s q cid st e r → r.work ≡ Management (CreateSq k n base)
       → is_success st ≡ true → P (events.Reap q) (events.Reaps what) (a.on_host_queue k a.live (heard_without q cid e s))
@@ -153,8 +153,8 @@ pub record HostMoves (P : Event → Reply → State → Type 0) (s : State) : Ty
   pub aborts : (q cid id : ℕ) → refusal_of s (events.Abort q cid) ≡ None → IsNewIdentifier s 0 id → P (events.Abort q cid) (events.Sent id) (sends (Abort q cid) id s)
   pub asks : (q id : ℕ) (queue : HostQueue) → refusal_of s (events.DeleteSq q) ≡ None → IsNewIdentifier s 0 id → IsLiveQueue s q queue → P (events.DeleteSq q) (events.Sent id) (a.on_host_queue q a.deleting (sends (DeleteSq q) id s))
   pub drops : (q id : ℕ) → refusal_of s (events.DeleteCq q) ≡ None → IsNewIdentifier s 0 id → P (events.DeleteCq q) (events.Sent id) (sends (DeleteCq q) id s)
-  pub creates_cqs : (q id first : ℕ) (queue : HostQueue) → refusal_of s (events.CreateCq q) ≡ None → IsNewIdentifier s 0 id → IsGranted s q Completion Gone queue first
-      → P (events.CreateCq q) (events.Sent id) (sends (creates_cq q first s) id (grants_cq q first s))
+  pub creates_cqs : (q : ℕ) (vector : Option ℕ) (id first : ℕ) (queue : HostQueue) → refusal_of s (events.CreateCq q vector) ≡ None → IsNewIdentifier s 0 id → IsGranted s q Completion Gone queue first
+      → P (events.CreateCq q vector) (events.Sent id) (sends (creates_cq q vector first s) id (grants_cq q first s))
   pub creates_sqs : (q id first : ℕ) (queue : HostQueue) → refusal_of s (events.CreateSq q) ≡ None → IsNewIdentifier s 0 id → IsGranted s q Submission HalfMade queue first
       → P (events.CreateSq q) (events.Sent id) (sends (creates_sq q first s) id (grants_sq q first s))
   pub retires : (q : ℕ) (queue : HostQueue) → refusal_of s (events.Retire q) ≡ None → host_queue s q ≡ Some queue → queue.state ≡ Deleting true
@@ -293,15 +293,15 @@ told P s q cid st what move t =
           | inr is ↦ rw is (kept)
         ]
         free b good o at = kept
-    by e r heard (Management (CreateCq k n base)) w = elim (cases_Bool (is_success st)) [
-      | inl good ↦ rw good (move.makes_cq q cid st what e r k n base t heard w good)
+    by e r heard (Management (CreateCq k n base vector)) w = elim (cases_Bool (is_success st)) [
+      | inl good ↦ rw good (move.makes_cq q cid st what e r k n base vector t heard w good)
       | inr bad ↦ rw bad (unmade (host_queue (a.heard q e s) k) refl bad)
     ]
       where
         unmade : (o : Option HostQueue) → host_queue (a.heard q e s) k ≡ o → is_success st ≡ false
             → P (events.Reap q) (events.Reaps what) (option_map_or (λ queue. a.on_host_queue k a.gone (a.given_back queue.cq_pages (heard_without q cid e s))) o (heard_without q cid e s))
-        unmade None at bad = move.hears q cid st what e r (CreateCq k n base) t heard w (λ k. refl) (λ z is. nobody (a.heard q e s).host.queues z k (alone (k == z) is) at)
-        unmade (Some queue) at bad = move.unmakes_cq q cid st what e r k n base queue t heard w at bad
+        unmade None at bad = move.hears q cid st what e r (CreateCq k n base vector) t heard w (λ k. refl) (λ z is. nobody (a.heard q e s).host.queues z k (alone (k == z) is) at)
+        unmade (Some queue) at bad = move.unmakes_cq q cid st what e r k n base vector queue t heard w at bad
     by e r heard (Management (CreateSq k n base)) w = made (is_success st) refl
       where
         unmade : (o : Option HostQueue) → host_queue (a.heard q e s) k ≡ o → is_success st ≡ false
@@ -341,16 +341,16 @@ host_moves P s (events.DeleteSq q) (events.Sent id) ok c move =
     subst (λ (t : State). P (events.DeleteSq q) (events.Sent id) (a.on_host_queue q a.deleting t)) (posted_is 0 (admin_entry (DeleteSq q) id) (a.on_records (λ records. records ++ sent_record (DeleteSq q) id ∷ []) s))
     (move.asks q id live.0 ok.0 ok.1 live.1)
 host_moves P s (events.DeleteCq q) (events.Sent id) ok c move = subst (P (events.DeleteCq q) (events.Sent id)) (posted_is 0 (admin_entry (DeleteCq q) id) (a.on_records (λ records. records ++ sent_record (DeleteCq q) id ∷ []) s)) (move.drops q id ok.0 ok.1)
-host_moves P s (events.CreateCq q) (events.Sent id) ok c move =
-    let fails = unrefused s (events.CreateCq q) ok.0 in
+host_moves P s (events.CreateCq q vector) (events.Sent id) ok c move =
+    let fails = unrefused s (events.CreateCq q vector) ok.0 in
     let x = queue_found is_gone s q (not-false _ fails.1.0) in
     let run = run_found s Completion fails.1.1.1.1.0 in
     let granted : IsGranted s q Completion Gone x.0 run.0 = record { there = x.1; state = (grind (arith, x.2)); other = io_queue s q fails.0; run = run.1 } in
     let pages = half_from Completion run.0 s in
-    subst (λ (ps : List ℕ). P (events.CreateCq q) (events.Sent id) (a.sent (CreateCq q s.entries (a.base_of ps)) id (admin_entry (CreateCq q s.entries (a.base_of ps)) id) (a.on_host_queue q (a.making_cq ps) (a.half_granted ps s))))
+    subst (λ (ps : List ℕ). P (events.CreateCq q vector) (events.Sent id) (a.sent (CreateCq q s.entries (a.base_of ps) vector) id (admin_entry (CreateCq q s.entries (a.base_of ps) vector) id) (a.on_host_queue q (a.making_cq ps) (a.half_granted ps s))))
     (sym (ap (λ (o : Option ℕ). option_map_or (λ first. pages_from first (half_pages s.entries Completion)) o []) run.1))
-    (subst (P (events.CreateCq q) (events.Sent id)) (posted_is 0 (admin_entry (creates_cq q run.0 s) id) (a.on_records (λ records. records ++ sent_record (creates_cq q run.0 s) id ∷ []) (grants_cq q run.0 s)))
-    (move.creates_cqs q id run.0 x.0 ok.0 ok.1 granted))
+    (subst (P (events.CreateCq q vector) (events.Sent id)) (posted_is 0 (admin_entry (creates_cq q vector run.0 s) id) (a.on_records (λ records. records ++ sent_record (creates_cq q vector run.0 s) id ∷ []) (grants_cq q run.0 s)))
+    (move.creates_cqs q vector id run.0 x.0 ok.0 ok.1 granted))
 host_moves P s (events.CreateSq q) (events.Sent id) ok c move =
     let fails = unrefused s (events.CreateSq q) ok.0 in
     let states = or_parts (not (in_state is_half_made s q)) _ fails.1.0 in

@@ -73,11 +73,11 @@ deletions_wait = record {
   aborts = λ z k cid. refl;
   drops = λ z k. refl;
   deletes = λ z k far. far;
-  creates_cq = λ z k n base far. refl;
+  creates_cq = λ z k n base vector far. refl;
   creates_sq = λ z k n base far. refl;
   kinds = λ z w is. or_left (deletes_sq_of z w) _ is;
   asked = λ k. eq-eqb k k refl;
-  making_cq = λ k n base. refl;
+  making_cq = λ k n base vector. refl;
   making_sq = λ k n base. refl;
   live = refl;
   noted = refl;
@@ -92,11 +92,11 @@ completions_wait = record {
   aborts = λ z k cid. refl;
   drops = λ z k. refl;
   deletes = λ z k far. refl;
-  creates_cq = λ z k n base far. far;
+  creates_cq = λ z k n base vector far. far;
   creates_sq = λ z k n base far. refl;
   kinds = λ z w is. or_right (deletes_sq_of z w) _ (or_left (creates_cq_of z w) _ is);
   asked = λ k. refl;
-  making_cq = λ k n base. eq-eqb k k refl;
+  making_cq = λ k n base vector. eq-eqb k k refl;
   making_sq = λ k n base. refl;
   live = refl;
   noted = refl;
@@ -111,11 +111,11 @@ submissions_wait = record {
   aborts = λ z k cid. refl;
   drops = λ z k. refl;
   deletes = λ z k far. refl;
-  creates_cq = λ z k n base far. refl;
+  creates_cq = λ z k n base vector far. refl;
   creates_sq = λ z k n base far. far;
   kinds = λ z w is. or_right (deletes_sq_of z w) _ (or_right (creates_cq_of z w) _ is);
   asked = λ k. refl;
-  making_cq = λ k n base. refl;
+  making_cq = λ k n base vector. refl;
   making_sq = λ k n base. eq-eqb k k refl;
   live = refl;
   noted = refl;
@@ -327,9 +327,9 @@ owns_event s e reply ok c holds =
       notes = λ q cid st what e r k t heard w.
           ok-queue k (λ queue. record queue { state = if is_success st then Deleting true else Live }) (heard_without q cid e s) (λ p queue. refl) (ended q cid e r (DeleteSq k) heard.found w);
       frees = λ q cid st what e r k queue t heard w at retired good. ok-half_freed queue.cq_pages a.gone k queue (heard_without q cid e s) at (λ p. omega arith) (ended q cid e r (DeleteCq k) heard.found w);
-      makes_cq = λ q cid st what e r k n base t heard w good. ok-queue k a.half_made (heard_without q cid e s) (λ p queue. refl) (ended q cid e r (CreateCq k n base) heard.found w);
-      unmakes_cq = λ q cid st what e r k n base queue t heard w at bad.
-          ok-half_freed queue.cq_pages a.gone k queue (heard_without q cid e s) at (λ p. omega arith) (ended q cid e r (CreateCq k n base) heard.found w);
+      makes_cq = λ q cid st what e r k n base vector t heard w good. ok-queue k a.half_made (heard_without q cid e s) (λ p queue. refl) (ended q cid e r (CreateCq k n base vector) heard.found w);
+      unmakes_cq = λ q cid st what e r k n base vector queue t heard w at bad.
+          ok-half_freed queue.cq_pages a.gone k queue (heard_without q cid e s) at (λ p. omega arith) (ended q cid e r (CreateCq k n base vector) heard.found w);
       makes_sq = λ q cid st what e r k n base t heard w good. ok-queue k a.live (heard_without q cid e s) (λ p queue. refl) (ended q cid e r (CreateSq k n base) heard.found w);
       unmakes_sq = λ q cid st what e r k n base queue t heard w at bad.
           ok-half_freed queue.sq_pages a.unmade_sq k queue (heard_without q cid e s) at (λ p. omega arith) (ended q cid e r (CreateSq k n base) heard.found w);
@@ -340,8 +340,8 @@ owns_event s e reply ok c holds =
       aborts = λ q cid id none new. ok-sent (Abort q cid) id s new h;
       asks = λ q id queue none new live. ok-queue q a.deleting (sends (DeleteSq q) id s) (λ p queue. refl) (ok-sent (DeleteSq q) id s new h);
       drops = λ q id none new. ok-sent (DeleteCq q) id s new h;
-      creates_cqs = λ q id first queue none new granted.
-          ok-sent (creates_cq q first s) id (grants_cq q first s) (record { in_range = new.in_range; unused = new.unused })
+      creates_cqs = λ q vector id first queue none new granted.
+          ok-sent (creates_cq q vector first s) id (grants_cq q first s) (record { in_range = new.in_range; unused = new.unused })
           (ok-half_granted (half_from Completion first s) (a.making_cq (half_from Completion first s)) q queue s granted.there
           (λ p. omega (arith, ap (times p) ((others q queue granted.there).completion (ap has_cq granted.state)))) (run_times s.host.free (half_pages s.entries Completion) first granted.run) h);
       creates_sqs = λ q id first queue none new granted.
@@ -506,8 +506,8 @@ fits_event s e reply ok c h =
       hears = λ q cid st what e r adm t heard w quiet unmade. without q cid r heard.found heard.submitted;
       notes = λ q cid st what e r k t heard w. without q cid r heard.found heard.submitted;
       frees = λ q cid st what e r k queue t heard w at retired good. without q cid r heard.found heard.submitted;
-      makes_cq = λ q cid st what e r k n base t heard w good. without q cid r heard.found heard.submitted;
-      unmakes_cq = λ q cid st what e r k n base queue t heard w at bad. without q cid r heard.found heard.submitted;
+      makes_cq = λ q cid st what e r k n base vector t heard w good. without q cid r heard.found heard.submitted;
+      unmakes_cq = λ q cid st what e r k n base vector queue t heard w at bad. without q cid r heard.found heard.submitted;
       makes_sq = λ q cid st what e r k n base t heard w good. without q cid r heard.found heard.submitted;
       unmakes_sq = λ q cid st what e r k n base queue t heard w at bad. without q cid r heard.found heard.submitted;
       collects = λ q cid r f at held is.
@@ -517,8 +517,8 @@ fits_event s e reply ok c h =
       aborts = λ q cid id none new. sent (Abort q cid) id s h.1;
       asks = λ q id queue none new live. sent (DeleteSq q) id s h.1;
       drops = λ q id none new. sent (DeleteCq q) id s h.1;
-      creates_cqs = λ q id first queue none new granted.
-          sent (creates_cq q first s) id (grants_cq q first s) (zeroed_in s (half_from Completion first s) (run_times s.host.free (half_pages s.entries Completion) first granted.run) h.0 h.1);
+      creates_cqs = λ q vector id first queue none new granted.
+          sent (creates_cq q vector first s) id (grants_cq q first s) (zeroed_in s (half_from Completion first s) (run_times s.host.free (half_pages s.entries Completion) first granted.run) h.0 h.1);
       creates_sqs = λ q id first queue none new granted.
           sent (creates_sq q first s) id (grants_sq q first s) (zeroed_in s (half_from Submission first s) (run_times s.host.free (half_pages s.entries Submission) first granted.run) h.0 h.1);
       retires = λ q queue none at deleted. same_taken s (map (a.lost q) s.host.records) (λ p. total-map (taken p) (a.lost q) (fits-lost p q) s.host.records) h.1;

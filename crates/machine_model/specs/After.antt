@@ -161,7 +161,7 @@ after_admin (DeleteCq q) st s =
     if is_success st && option_map_or (λ queue. has_cq_alone queue.state) (host_queue s q) false
     then half_freed (λ queue. queue.cq_pages) gone q s
     else s
-after_admin (CreateCq q n base) st s =
+after_admin (CreateCq q n base vector) st s =
     if is_success st then on_host_queue q half_made s else half_freed (λ queue. queue.cq_pages) gone q s
 after_admin (CreateSq q n base) st s =
     if is_success st then on_host_queue q live s else half_freed (λ queue. queue.sq_pages) unmade_sq q s
@@ -203,10 +203,10 @@ half_granted pages s = granted pages (on_memory (with_pages (zeroed_pages pages)
 abbrev pub base_of : List ℕ → ℕ
 base_of pages = 4096 * slice_index pages 0
 
-abbrev pub after_create_cq : ℕ → ℕ → State → State
-after_create_cq q cid s =
+abbrev pub after_create_cq : ℕ → Option ℕ → ℕ → State → State
+after_create_cq q vector cid s =
     let pages = half_run Completion s in
-    let kind : AdminKind = CreateCq q s.entries (base_of pages) in
+    let kind : AdminKind = CreateCq q s.entries (base_of pages) vector in
     sent kind cid (admin_entry kind cid) (on_host_queue q (making_cq pages) (half_granted pages s))
 
 abbrev pub after_create_sq : ℕ → ℕ → State → State
@@ -463,7 +463,7 @@ after s (events.Release f) reply = after_end f.q f.cid (f.data_pages ++ f.chain_
 after s (events.Abort q cid) (events.Sent id) = sent (Abort q cid) id (admin_entry (Abort q cid) id) s
 after s (events.DeleteSq q) (events.Sent id) = after_delete_sq q id s
 after s (events.DeleteCq q) (events.Sent id) = sent (DeleteCq q) id (admin_entry (DeleteCq q) id) s
-after s (events.CreateCq q) (events.Sent id) = after_create_cq q id s
+after s (events.CreateCq q vector) (events.Sent id) = after_create_cq q vector id s
 after s (events.CreateSq q) (events.Sent id) = after_create_sq q id s
 after s (events.Retire q) reply = after_retire q s
 after s (events.Forge q slot bytes) reply = after_forge q slot bytes s

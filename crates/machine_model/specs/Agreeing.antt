@@ -120,7 +120,7 @@ deletes_cq q (DeleteCq a) = a % 65536 == q
 deletes_cq q adm = false
 
 abbrev pub creates_cq : ℕ → AdminKind → Bool
-creates_cq q (CreateCq a n base) = a % 65536 == q
+creates_cq q (CreateCq a n base vector) = a % 65536 == q
 creates_cq q adm = false
 
 abbrev pub creates_sq : ℕ → AdminKind → Bool

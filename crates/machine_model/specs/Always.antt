@@ -42,7 +42,7 @@ NamesItsHalf n queues (Io request) = Unit {0}
 NamesItsHalf n queues (Management (Abort q cid)) = Unit {0}
 NamesItsHalf n queues (Management (DeleteSq q)) = Unit {0}
 NamesItsHalf n queues (Management (DeleteCq q)) = Unit {0}
-NamesItsHalf n queues (Management (CreateCq q size base)) =
+NamesItsHalf n queues (Management (CreateCq q size base vector)) =
     (size ≡ n) × (queue : HostQueue) × (slice_get queues q ≡ Some queue) × LieAt n Completion base queue.cq_pages
 NamesItsHalf n queues (Management (CreateSq q size base)) =
     (size ≡ n) × (queue : HostQueue) × (slice_get queues q ≡ Some queue) × LieAt n Submission base queue.sq_pages

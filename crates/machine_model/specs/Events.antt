@@ -1,5 +1,5 @@
 -- What may happen, and what is answered.
-use Rattle.std.specs.Prelude.{ℕ, List}
+use Rattle.std.specs.Prelude.{ℕ, Option, List}
 use Rattle.controller_walk.specs.declared.walk.WalkState.{WalkState}
 use Rattle.io_commands.specs.{Asked.Request, Drafts.DraftContents, Values.FinishedContents}
 pub use Rattle.machine_model.specs.declared.words.Refusal.{Refusal}
@@ -20,7 +20,8 @@ pub data Event : Type 0 where
   Abort : (q cid : ℕ) → Event
   DeleteSq : (q : ℕ) → Event
   DeleteCq : (q : ℕ) → Event
-  CreateCq : (q : ℕ) → Event
+  -- with interrupts on a vector, or polled
+  CreateCq : (q : ℕ) → (vector : Option ℕ) → Event
   CreateSq : (q : ℕ) → Event
   Retire : (q : ℕ) → Event
   Fetch : (q : ℕ) → Event

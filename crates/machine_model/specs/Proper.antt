@@ -1,6 +1,6 @@
 -- What each value that a caller hands in is, whatever made it: whole pages, and a draft as its type keeps it. That a byte is a byte is
 -- said by its type alone.
-use Rattle.std.specs.Prelude.{◌≡◌, ℕ, List, length, All}
+use Rattle.std.specs.Prelude.{◌≡◌, ◌<◌, ◌^◌, ℕ, IfSome, List, length, All}
 use Rattle.io_commands.specs.{Drafts.{DraftContents, IsDraft}, Requests.FitsRequest}
 use Rattle.machine_model.specs.Events.{Event}
 use Rattle.machine_model.specs.Events as events
@@ -26,4 +26,5 @@ IsProper (events.Submit d) = IsProperDraft d
 IsProper (events.Cancel d) = IsProperDraft d
 IsProper (events.Release f) = ArePages f.data_pages × ArePages f.chain_pages
 IsProper (events.Forge q slot bytes) = length bytes ≡ 16
+IsProper (events.CreateCq q vector) = IfSome vector (λ v. v < 2 ^ 16)
 IsProper e = Unit {0}

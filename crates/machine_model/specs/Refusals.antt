@@ -186,7 +186,7 @@ deletes_sq_of q (Management (DeleteSq a)) = a == q
 deletes_sq_of q work = false
 
 abbrev pub creates_cq_of : ℕ → Work → Bool
-creates_cq_of q (Management (CreateCq a n base)) = a == q
+creates_cq_of q (Management (CreateCq a n base vector)) = a == q
 creates_cq_of q work = false
 
 abbrev pub creates_sq_of : ℕ → Work → Bool
@@ -329,7 +329,7 @@ causes s (events.DeleteCq q) =
     ∷ (no_identifier s 0, events.NoIdentifier)
     ∷ (queue_full s 0, events.QueueFull)
     ∷ []
-causes s (events.CreateCq q) =
+causes s (events.CreateCq q vector) =
     (not (is_io_queue s q), events.NoQueue)
     ∷ (not (in_state is_gone s q), events.WrongState)
     ∷ (nat_lt 0 (length (outstanding_on s.host q)), events.Outstanding)

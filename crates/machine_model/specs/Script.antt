@@ -34,7 +34,7 @@ pub data Line : Type 0 where
   abort : (q cid : ℕ) → Line
   delete_sq : (q : ℕ) → Line
   delete_cq : (q : ℕ) → Line
-  create_cq : (q : ℕ) → Line
+  create_cq : (q : ℕ) → (vector : Option ℕ) → Line
   create_sq : (q : ℕ) → Line
   retire : (q : ℕ) → Line
   forge : (q slot : ℕ) → List ℕ → Line
@@ -205,9 +205,9 @@ line t (delete_sq q) =
 line t (delete_cq q) =
     let id = lowest_of (outstanding_on t.world.host 0) (pages_from 0 t.world.entries) in
     stepped t (events.DeleteCq q) (events.Sent id) (sent id) same_table
-line t (create_cq q) =
+line t (create_cq q vector) =
     let id = lowest_of (outstanding_on t.world.host 0) (pages_from 0 t.world.entries) in
-    stepped t (events.CreateCq q) (events.Sent id) (sent id) same_table
+    stepped t (events.CreateCq q vector) (events.Sent id) (sent id) same_table
 line t (create_sq q) =
     let id = lowest_of (outstanding_on t.world.host 0) (pages_from 0 t.world.entries) in
     stepped t (events.CreateSq q) (events.Sent id) (sent id) same_table

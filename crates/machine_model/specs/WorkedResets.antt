@@ -1,5 +1,5 @@
 -- Worked runs of the controller reset.
-use Rattle.std.specs.Prelude.{Bool, List, [], ◌∷◌, ◌++◌}
+use Rattle.std.specs.Prelude.{Bool, None, List, [], ◌∷◌, ◌++◌}
 use Rattle.controller_walk.specs.declared.walk.WalkState.TheVariants.{More, End}
 use Rattle.entry_codec.specs.declared.status.TheConstants.Status.{SUCCESS, ABORTED_SQ_DELETION}
 use Rattle.io_commands.specs.declared.request.Kind.TheVariants.{Read}
@@ -25,7 +25,7 @@ one_of_each_said =
 -- nothing is at the controller any more and no I/O queue is in service; the commands that were submitted are lost, and the others stand as they stood
 abbrev pub after_all : List Line
 after_all =
-    reset ∷ fetch 0 ∷ fetch 1 ∷ walk 1 2 ∷ complete 1 2 ∷ reap 0 ∷ reap 1 ∷ block 1 Read ∷ build 2 0 ∷ submit 2 0 ∷ create_cq 1
+    reset ∷ fetch 0 ∷ fetch 1 ∷ walk 1 2 ∷ complete 1 2 ∷ reap 0 ∷ reap 1 ∷ block 1 Read ∷ build 2 0 ∷ submit 2 0 ∷ create_cq 1 None
     ∷ cancel 2 0 ∷ collect 1 1 ∷ collect 1 2 ∷ collect 2 1 ∷ release 1 0 ∷ release 1 1 ∷ release 1 2 ∷ release 2 1 ∷ []
 
 abbrev pub after_all_said : List Said

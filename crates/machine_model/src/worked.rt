@@ -3,7 +3,7 @@
 //! A world has 16 pages, one I/O queue of 4 entries and an image of 64 blocks of zeros where a run does not say otherwise.
 #![tactic(auto, unfolding(page_memory::specs::Pages::zero_page, sgl_descriptor::specs::Spelling::descriptor_of, entry_codec::specs::Submission::submission_bytes, entry_codec::specs::Submission::submission_of, entry_codec::specs::Completion::completion_bytes, entry_codec::specs::Completion::completion_of, controller_walk::specs::Units::moving, controller_walk::specs::Units::from_place, page_memory::specs::Memory::bytes_at))]
 
-ghost use Rattle.std.specs.Prelude.{◌≡◌, [], ◌∷◌, Some, false, true, length};
+ghost use Rattle.std.specs.Prelude.{◌≡◌, [], ◌∷◌, None, Some, false, true, length};
 ghost use Rattle.entry_codec.specs.declared.hints.TheConstants.Hints.{NONE};
 ghost use Rattle.machine_model.specs.Events as events;
 ghost use Rattle.machine_model.specs.Opening as opens;
@@ -89,12 +89,14 @@ pub fn worked_admin()
     ensures two_cq_deletions { played ordinary admin.two_cq_deletions ≡ admin.two_cq_deletions_said }
 {}
 
-/// A queue that is gone is made again: the calls and what they answer, the bytes of the two entries, what is refused while
-/// half of it is there, and the pages that are left free.
+/// A queue that is gone is made again: the calls and what they answer, the bytes of the two entries, polled and with
+/// interrupts, what is refused while half of it is there, and the pages that are left free.
 pub fn worked_creations()
     ensures creation { played (left_by ordinary admin.queue_deletion) creations.creation ≡ creations.creation_said }
-    ensures completion_queue_entry { creations.entry_of (left_by ordinary admin.queue_deletion) (script.create_cq 1) ≡ creations.completion_queue_entry_said }
-    ensures submission_queue_entry { creations.entry_of (left_by (left_by ordinary admin.queue_deletion) (creations.managed (script.create_cq 1))) (script.create_sq 1) ≡ creations.submission_queue_entry_said }
+    ensures completion_queue_entry { creations.entry_of (left_by ordinary admin.queue_deletion) (script.create_cq 1 None) ≡ creations.completion_queue_entry_said }
+    ensures interrupts { played (left_by ordinary admin.queue_deletion) (creations.creation_with (Some 3)) ≡ creations.creation_said }
+    ensures interrupts_entry { creations.entry_of (left_by ordinary admin.queue_deletion) (script.create_cq 1 (Some 3)) ≡ creations.interrupts_entry_said }
+    ensures submission_queue_entry { creations.entry_of (left_by (left_by ordinary admin.queue_deletion) (creations.managed (script.create_cq 1 None))) (script.create_sq 1) ≡ creations.submission_queue_entry_said }
     ensures half_made_refusals { played (left_by ordinary admin.queue_deletion) creations.half_made_refusals ≡ creations.half_made_refusals_said }
     ensures free_after_creation { free_of (left_by (left_by ordinary admin.queue_deletion) creations.creation) ≡ 11 }
     ensures free_after_refusals { free_of (left_by (left_by ordinary admin.queue_deletion) creations.half_made_refusals) ≡ 14 }

@@ -274,7 +274,7 @@ impl<A: Allocator + Copy> Driver<A> {
             AdminKind::Abort { q, cid } => self.host.abort(store, q, cid),
             AdminKind::DeleteSq { q } => self.host.delete_sq(store, q),
             AdminKind::DeleteCq { q } => self.host.delete_cq(store, q),
-            AdminKind::CreateCq { q, .. } => self.host.create_cq(store, q),
+            AdminKind::CreateCq { q, vector, .. } => self.host.create_cq(store, q, vector),
             AdminKind::CreateSq { q, .. } => self.host.create_sq(store, q),
         }
     }

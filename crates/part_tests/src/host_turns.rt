@@ -202,11 +202,16 @@ impl Run {
     fn send(&mut self) -> Option<Refusal> {
         let q = self.queue();
         let cid = (self.numbers.next() % 4) as u16;
-        let (entries, base) = (4, 0);
+        let (entries, base, vector) = (4, 0, Some(cid));
         let kind = match self.numbers.next() % 32 {
             0 => AdminKind::DeleteSq { q },
             1 => AdminKind::DeleteCq { q },
-            2..=9 => AdminKind::CreateCq { q, entries, base },
+            2..=9 => AdminKind::CreateCq {
+                q,
+                entries,
+                base,
+                vector,
+            },
             10..=17 => AdminKind::CreateSq { q, entries, base },
             _ => AdminKind::Abort { q, cid },
         };
@@ -256,8 +261,14 @@ impl Run {
     fn make_queue(&mut self, rt: &impl Abort, q: u16, slot: u8)
         requires { slot < 3 }
     {
-        let (entries, base) = (4, 0);
-        self.make(rt, AdminKind::CreateCq { q, entries, base }, slot);
+        let (entries, base, vector) = (4, 0, None);
+        let completion = AdminKind::CreateCq {
+            q,
+            entries,
+            base,
+            vector,
+        };
+        self.make(rt, completion, slot);
         self.make(rt, AdminKind::CreateSq { q, entries, base }, slot + 1);
     }
 

@@ -72,7 +72,7 @@ deletion_asked s stood j known z is0 = let k = known z in of k.0 k.1 k.2
         subst (λ (n : ℕ). asked_at s.host.queues n ≡ true) (sym (ap named_queue is ∙ (omega arith))) asked
     of (Abort k c) knows is = absurd (other (Abort k c) refl is)
     of (DeleteCq k) knows is = absurd (other (DeleteCq k) refl is)
-    of (CreateCq k n base) knows is = absurd (other (CreateCq k n base) refl is)
+    of (CreateCq k n base vector) knows is = absurd (other (CreateCq k n base vector) refl is)
     of (CreateSq k n base) knows is = absurd (other (CreateSq k n base) refl is)
 
 deletion_stays : (s : State) (e : Event) (reply : Reply) → resets e ≡ false → Accepts s e reply → Stood s → (k : ℕ) (j : Job) → slice_get s.controller.jobs k ≡ Some j → j.q ≡ 0 → (j.entry.opcode == DELETE_IO_SQ) ≡ true
@@ -164,8 +164,8 @@ absent_host F s e reply ok c other h =
       hears = λ q cid st what e r adm t heard w quiet unmade other. reaped q;
       notes = λ q cid st what e r k t heard w other. reaped q;
       frees = λ q cid st what e r k queue t heard w at alone good other. reaped q;
-      makes_cq = λ q cid st what e r k n base t heard w good other. reaped q;
-      unmakes_cq = λ q cid st what e r k n base queue t heard w at bad other. reaped q;
+      makes_cq = λ q cid st what e r k n base vector t heard w good other. reaped q;
+      unmakes_cq = λ q cid st what e r k n base vector queue t heard w at bad other. reaped q;
       makes_sq = λ q cid st what e r k n base t heard w good other. reaped q;
       unmakes_sq = λ q cid st what e r k n base queue t heard w at bad other. reaped q;
       collects = λ q cid r f at held is other. h;
@@ -173,7 +173,7 @@ absent_host F s e reply ok c other h =
       aborts = λ q cid id none new other. posts 0 _;
       asks = λ q id queue none new live other. posts 0 _;
       drops = λ q id none new other. posts 0 _;
-      creates_cqs = λ q id first queue none new granted other. posts 0 _;
+      creates_cqs = λ q vector id first queue none new granted other. posts 0 _;
       creates_sqs = λ q id first queue none new granted other. posts 0 _;
       retires = λ q queue none at deleted other. h;
       forges = λ q slot bytes queue none at other. h;
@@ -244,8 +244,8 @@ serving_host s e reply ok c holds =
         refl,
       );
       frees = λ q cid st what e r k queue t heard w at alone good n y ey deleting. (past q e k a.gone (λ x. refl) n y ey deleting, refl);
-      makes_cq = λ q cid st what e r k size base t heard w good n y ey deleting. (past q e k a.half_made (λ x. refl) n y ey deleting, refl);
-      unmakes_cq = λ q cid st what e r k size base queue t heard w at bad n y ey deleting. (past q e k a.gone (λ x. refl) n y ey deleting, refl);
+      makes_cq = λ q cid st what e r k size base vector t heard w good n y ey deleting. (past q e k a.half_made (λ x. refl) n y ey deleting, refl);
+      unmakes_cq = λ q cid st what e r k size base vector queue t heard w at bad n y ey deleting. (past q e k a.gone (λ x. refl) n y ey deleting, refl);
       makes_sq = λ q cid st what e r k size base t heard w good n y ey deleting. (past q e k a.live (λ x. refl) n y ey deleting, refl);
       unmakes_sq = λ q cid st what e r k size base queue t heard w at bad n y ey deleting. (past q e k a.unmade_sq (λ x. refl) n y ey deleting, refl);
       collects = λ q cid r f at held is n y ey deleting. (own n y ey deleting, refl);
@@ -256,7 +256,7 @@ serving_host s e reply ok c holds =
         refl,
       );
       drops = λ q id none new n y ey deleting. (serving_ring s 0 (next_tail s.entries) s.host.queues own n y ey deleting, refl);
-      creates_cqs = λ q id first queue none new granted n y ey deleting.
+      creates_cqs = λ q vector id first queue none new granted n y ey deleting.
           let with_half = a.making_cq (half_from Completion first s) in (
             serving_ring s 0 (next_tail s.entries) (change q with_half s.host.queues) (serving_change s q with_half s.host.queues (λ x ex d. absurd (true≢false (sym d))) own) n y ey deleting,
             refl,
@@ -524,8 +524,8 @@ held_host done s e reply ok c trusted stood answers gone h =
       hears = λ q cid st what e r adm t heard w quiet unmade ok. less (events.Reap q) (events.Reaps what) ok q cid;
       notes = λ q cid st what e r k t heard w ok. less (events.Reap q) (events.Reaps what) ok q cid;
       frees = λ q cid st what e r k queue t heard w at alone good ok. less (events.Reap q) (events.Reaps what) ok q cid;
-      makes_cq = λ q cid st what e r k n base t heard w good ok. less (events.Reap q) (events.Reaps what) ok q cid;
-      unmakes_cq = λ q cid st what e r k n base queue t heard w at bad ok. less (events.Reap q) (events.Reaps what) ok q cid;
+      makes_cq = λ q cid st what e r k n base vector t heard w good ok. less (events.Reap q) (events.Reaps what) ok q cid;
+      unmakes_cq = λ q cid st what e r k n base vector queue t heard w at bad ok. less (events.Reap q) (events.Reaps what) ok q cid;
       makes_sq = λ q cid st what e r k n base t heard w good ok. less (events.Reap q) (events.Reaps what) ok q cid;
       unmakes_sq = λ q cid st what e r k n base queue t heard w at bad ok. less (events.Reap q) (events.Reaps what) ok q cid;
       collects = λ q cid r f at held is ok. moved (events.Collect q cid) (events.Collects f) ok q cid a.collected (λ r'. refl);
@@ -533,7 +533,7 @@ held_host done s e reply ok c trusted stood answers gone h =
       aborts = λ q cid id none new ok. sends (events.Abort q cid) id ok (Abort q cid);
       asks = λ q id queue none new live ok. sends (events.DeleteSq q) id ok (DeleteSq q);
       drops = λ q id none new ok. sends (events.DeleteCq q) id ok (DeleteCq q);
-      creates_cqs = λ q id first queue none new granted ok. sends (events.CreateCq q) id ok (creates_cq q first s);
+      creates_cqs = λ q vector id first queue none new granted ok. sends (events.CreateCq q vector) id ok (creates_cq q vector first s);
       creates_sqs = λ q id first queue none new granted ok. sends (events.CreateSq q) id ok (creates_sq q first s);
       retires = λ q queue none at deleted ok. all_map (KnownIn s done) (HeldTold (done ++ made_of s (events.Retire q) events.Accepted ∷ [])) (a.lost q) s.host.records (λ r k. retired q r none ok k ((r.q == q) && is_submitted r.phase) refl) h;
       forges = λ q slot bytes queue none at ok. still (events.Forge q slot bytes) events.Accepted ok;

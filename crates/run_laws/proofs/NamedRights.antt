@@ -93,8 +93,8 @@ moves s k cid = record {
   hears = λ q c st what e r adm names-it heard w quiet unmade n. found-without q c k cid (other q c st what names-it n) s.host.records;
   notes = λ q c st what e r j names-it heard w n. found-without q c k cid (other q c st what names-it n) s.host.records;
   frees = λ q c st what e r j queue names-it heard w at alone good n. found-without q c k cid (other q c st what names-it n) s.host.records;
-  makes_cq = λ q c st what e r j size base names-it heard w good n. found-without q c k cid (other q c st what names-it n) s.host.records;
-  unmakes_cq = λ q c st what e r j size base queue names-it heard w at bad n. found-without q c k cid (other q c st what names-it n) s.host.records;
+  makes_cq = λ q c st what e r j size base vector names-it heard w good n. found-without q c k cid (other q c st what names-it n) s.host.records;
+  unmakes_cq = λ q c st what e r j size base vector queue names-it heard w at bad n. found-without q c k cid (other q c st what names-it n) s.host.records;
   makes_sq = λ q c st what e r j size base names-it heard w good n. found-without q c k cid (other q c st what names-it n) s.host.records;
   unmakes_sq = λ q c st what e r j size base queue names-it heard w at bad n. found-without q c k cid (other q c st what names-it n) s.host.records;
   collects = λ q c r f at held is n. found-with q c k cid a.collected (λ x. refl) n s.host.records;
@@ -102,7 +102,7 @@ moves s k cid = record {
   aborts = λ q c id none new n. found-append s.host.records (sent_record (Abort q c) id) k cid n;
   asks = λ q id queue none new live n. found-append s.host.records (sent_record (DeleteSq q) id) k cid n;
   drops = λ q id none new n. found-append s.host.records (sent_record (DeleteCq q) id) k cid n;
-  creates_cqs = λ q id first queue none new granted n. found-append s.host.records (sent_record (creates_cq q first s) id) k cid n;
+  creates_cqs = λ q vector id first queue none new granted n. found-append s.host.records (sent_record (creates_cq q vector first s) id) k cid n;
   creates_sqs = λ q id first queue none new granted n. found-append s.host.records (sent_record (creates_sq q first s) id) k cid n;
   retires = λ q queue none at deleted n. found-lost q k cid n s.host.records;
   forges = λ q slot bytes queue none at n. refl;
@@ -175,8 +175,8 @@ module _ (s : State) (k : ℕ) where
   deleted-other : (j : ℕ) → is_of_queue k (Management (DeleteCq j)) ≡ false → j ≡ k → ⊥
   deleted-other j n e = let h = rw (eq-eqb j k e) at n in true≢false h
 
-  made-cq-other : (j size base : ℕ) → is_of_queue k (Management (CreateCq j size base)) ≡ false → j ≡ k → ⊥
-  made-cq-other j size base n e = let h = rw (eq-eqb j k e) at n in true≢false h
+  made-cq-other : (j size base : ℕ) (vector : Option ℕ) → is_of_queue k (Management (CreateCq j size base vector)) ≡ false → j ≡ k → ⊥
+  made-cq-other j size base vector n e = let h = rw (eq-eqb j k e) at n in true≢false h
 
   made-sq-other : (j size base : ℕ) → is_of_queue k (Management (CreateSq j size base)) ≡ false → j ≡ k → ⊥
   made-sq-other j size base n e = let h = rw (eq-eqb j k e) at n in true≢false h
@@ -195,9 +195,9 @@ module _ (s : State) (k : ℕ) where
         rings-changed j k (λ x. record x { state = if is_success st then Deleting true else Live }) (λ x. refl) (a.heard q e s).host.queues ∙ heard-rings q e;
     frees = λ q c st what e r j queue names-it heard w at alone good n.
         rings-other j k a.gone (a.heard q e s).host.queues (deleted-other j (of-others q c st what r (Management (DeleteCq j)) names-it heard.found w n)) ∙ heard-rings q e;
-    makes_cq = λ q c st what e r j size base names-it heard w good n. rings-changed j k a.half_made (λ x. refl) (a.heard q e s).host.queues ∙ heard-rings q e;
-    unmakes_cq = λ q c st what e r j size base queue names-it heard w at bad n.
-        rings-other j k a.gone (a.heard q e s).host.queues (made-cq-other j size base (of-others q c st what r (Management (CreateCq j size base)) names-it heard.found w n)) ∙ heard-rings q e;
+    makes_cq = λ q c st what e r j size base vector names-it heard w good n. rings-changed j k a.half_made (λ x. refl) (a.heard q e s).host.queues ∙ heard-rings q e;
+    unmakes_cq = λ q c st what e r j size base vector queue names-it heard w at bad n.
+        rings-other j k a.gone (a.heard q e s).host.queues (made-cq-other j size base vector (of-others q c st what r (Management (CreateCq j size base vector)) names-it heard.found w n)) ∙ heard-rings q e;
     makes_sq = λ q c st what e r j size base names-it heard w good n. rings-changed j k a.live (λ x. refl) (a.heard q e s).host.queues ∙ heard-rings q e;
     unmakes_sq = λ q c st what e r j size base queue names-it heard w at bad n.
         rings-other j k a.unmade_sq (a.heard q e s).host.queues (made-sq-other j size base (of-others q c st what r (Management (CreateSq j size base)) names-it heard.found w n)) ∙ heard-rings q e;
@@ -206,7 +206,7 @@ module _ (s : State) (k : ℕ) where
     aborts = λ q c id none new n. posted-rings s.host.queues;
     asks = λ q id queue none new live n. rings-changed q k a.deleting (λ x. refl) (sends (DeleteSq q) id s).host.queues ∙ posted-rings s.host.queues;
     drops = λ q id none new n. posted-rings s.host.queues;
-    creates_cqs = λ q id first queue none new granted n. posted-rings (grants_cq q first s).host.queues ∙ rings-other q k (a.making_cq (half_from Completion first s)) s.host.queues (unlike q k n);
+    creates_cqs = λ q vector id first queue none new granted n. posted-rings (grants_cq q first s).host.queues ∙ rings-other q k (a.making_cq (half_from Completion first s)) s.host.queues (unlike q k n);
     creates_sqs = λ q id first queue none new granted n. posted-rings (grants_sq q first s).host.queues ∙ rings-other q k (a.making_sq (half_from Submission first s)) s.host.queues (unlike q k n);
     retires = λ q queue none at deleted n. rings-other q k a.retired s.host.queues (unlike q k n);
     forges = λ q slot bytes queue none at n. refl;

@@ -237,8 +237,8 @@ fall_host_event s e reply ok c t g h =
       hears = λ q cid st what e r adm told heard w quiet unmade. hears q cid st e r heard;
       notes = λ q cid st what e r k told heard w. ended q cid st e r k (λ queue. record queue { state = if is_success st then Deleting true else Live }) heard (λ x. refl);
       frees = λ q cid st what e r k queue told heard w at alone good. ended q cid st e r k a.gone heard (λ x. refl);
-      makes_cq = λ q cid st what e r k n base told heard w good. ended q cid st e r k a.half_made heard (λ x. refl);
-      unmakes_cq = λ q cid st what e r k n base queue told heard w at bad. ended q cid st e r k a.gone heard (λ x. refl);
+      makes_cq = λ q cid st what e r k n base vector told heard w good. ended q cid st e r k a.half_made heard (λ x. refl);
+      unmakes_cq = λ q cid st what e r k n base vector queue told heard w at bad. ended q cid st e r k a.gone heard (λ x. refl);
       makes_sq = λ q cid st what e r k n base told heard w good. ended q cid st e r k a.live heard (λ x. refl);
       unmakes_sq = λ q cid st what e r k n base queue told heard w at bad. ended q cid st e r k a.unmade_sq heard (λ x. refl);
       collects = λ q cid r f at held is. h;
@@ -248,9 +248,9 @@ fall_host_event s e reply ok c t g h =
           fall_host s.entries q a.deleting (sends (DeleteSq q) id s).host.queues (sends (DeleteSq q) id s).controller.queues (λ x. refl)
           (posts 0 (admin_entry (DeleteSq q) id) s.host.queues (λ queue e. e) (unrefused s (events.DeleteSq q) none).1.1.1.0 h);
       drops = λ q id none new. posts 0 (admin_entry (DeleteCq q) id) s.host.queues (λ queue e. e) (unrefused s (events.DeleteCq q) none).1.1.1.0 h;
-      creates_cqs = λ q id first queue none new granted.
+      creates_cqs = λ q vector id first queue none new granted.
           let with_half = a.making_cq (half_from Completion first s) in
-          posts 0 (admin_entry (creates_cq q first s) id) (change q with_half s.host.queues) (unchanged q with_half granted.other) (unrefused s (events.CreateCq q) none).1.1.1.1.1.0
+          posts 0 (admin_entry (creates_cq q vector first s) id) (change q with_half s.host.queues) (unchanged q with_half granted.other) (unrefused s (events.CreateCq q vector) none).1.1.1.1.1.0
           (fall_host_by s.entries q with_half s.host.queues s.controller.queues (λ x at ex ea falls. fresh x at (served q queue x granted.there ex (ap in_service granted.state)) q ex ea) h);
       creates_sqs = λ q id first queue none new granted.
           let with_half = a.making_sq (half_from Submission first s) in

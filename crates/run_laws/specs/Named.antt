@@ -48,7 +48,7 @@ is_of_queue k work = deletes_cq_of k work || creates_cq_of k work || creates_sq_
 
 -- whether a step names a queue: one that it makes or retires, or of which it ends a command that makes or deletes a half. A reset names all.
 abbrev pub names_queue : State → Event → Reply → ℕ → Bool
-names_queue s (events.CreateCq q) reply k = q == k
+names_queue s (events.CreateCq q vector) reply k = q == k
 names_queue s (events.CreateSq q) reply k = q == k
 names_queue s (events.Retire q) reply k = q == k
 names_queue s events.Reset reply k = true

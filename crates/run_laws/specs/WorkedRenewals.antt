@@ -1,11 +1,11 @@
 -- A worked run: a queue is deleted and retired, made again, and deleted and retired again. The second retirement has a deletion of its own.
-use Rattle.std.specs.Prelude.{ℕ, List, [], ◌∷◌, ◌++◌, length, filter}
+use Rattle.std.specs.Prelude.{ℕ, None, List, [], ◌∷◌, ◌++◌, length, filter}
 use Rattle.machine_model.specs.{Image.Made, Script.{Line, Said, delete_sq, delete_cq, create_cq, create_sq, retire, ok}}
 use Rattle.machine_model.specs.WorkedCreations.{managed, managed_said}
 use Rattle.run_laws.specs.{Ends.since_renewed, Statuses.deletes}
 
 abbrev pub made_again : List Line
-made_again = managed (delete_sq 1) ++ retire 1 ∷ managed (delete_cq 1) ++ managed (create_cq 1) ++ managed (create_sq 1)
+made_again = managed (delete_sq 1) ++ retire 1 ∷ managed (delete_cq 1) ++ managed (create_cq 1 None) ++ managed (create_sq 1)
 
 abbrev pub made_again_said : List Said
 made_again_said = managed_said ++ ok ∷ managed_said ++ managed_said ++ managed_said

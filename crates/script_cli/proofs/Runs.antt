@@ -7,11 +7,11 @@ use Rattle.step_core.specs.declared.step.Step.TheVariants as step
 use Rattle.script_cli.specs.declared.fault.RunFault.TheVariants as run
 use Rattle.std.proofs.Common.{◌≡◌, ◌<◌, ◌+◌, ◌^◌, ◌==◌, ◌&&◌, ℕ, Bool, true, false, nat_lt, nat_le, Option, Some, None, Result, Ok, Err, List, [], ◌∷◌, ◌++◌, length, option_and_then, if◌then◌else◌, refl, subst, eqb-true, ltb-true, arith, zero, suc, map, slice_get, ap, lt-ltb, append_assoc, sym, ◌∙◌, ◌⊎◌, inl, inr, take, min}
 use Rattle.std.{proofs.lemmas.{Grind.common_steps, List.Elements.{All-nil, All-push, Contains-append_right}}, specs.Io.KnownBytes.{Appends, Keeps}}
-use Rattle.std.specs.{List.Contains, Prelude.{All, IfOk, OnOk, OnErr, IfErr, codes}}
+use Rattle.std.specs.{List.Contains, Prelude.{All, IfOk, IfSome, OnOk, OnErr, IfErr, codes}}
 use Rattle.io_commands.specs.{Requests.{FitsPiece, FitsRequest}, declared.request.{Kind.Kind, Piece.{Piece, TheVariants.{Data, Bucket}}}}
 use Rattle.two_sides.proofs.Provided.{all_append}
 use Rattle.script_cli.{proofs.Texts.{same_if_short, appends_more, keeps_then}, specs.Faults.fault_of_script}
-use Rattle.script_cli.specs.Grammar.{Words, ◌>>=◌, value_or, wanted, number_word, kind_word, hex_word, sixteen_bytes_word, namespace_word, named_word, nsid_words, begins_option, nothing_more, with_piece, pieces_from, request_words, reserve_line, fill_line, forge_line, queue_line, command_line, verb_line, begins_comment, known_verb_line, line_of_words, words_of, line_of}
+use Rattle.script_cli.specs.Grammar.{Words, ◌>>=◌, value_or, wanted, number_word, kind_word, hex_word, sixteen_bytes_word, namespace_word, named_word, nsid_words, vector_word, vector_words, begins_option, nothing_more, with_piece, pieces_from, request_words, reserve_line, fill_line, create_cq_line, forge_line, queue_line, command_line, verb_line, begins_comment, known_verb_line, line_of_words, words_of, line_of}
 use Rattle.script_cli.specs.{Inputs.{IsFront, AreFirstOf, Gains}, Lines.{lines, before, onward}}
 use Rattle.script_cli.specs.{Numbers.{digits_from, if_below, number, hex, if_sixteen, sixteen_bytes}, Owners.owners_text}
 use Rattle.script_cli.specs.{Pieces.{number32, is_plus, data_of, data_piece, bucket_piece, piece}, Replies.reply_line}
@@ -19,7 +19,7 @@ use Rattle.script_cli.specs.Runs.{IsFitLine, AreFitLines, AreOwners, PrintsLine,
 use Rattle.script_cli.specs.Scripts.{numbered_line, numbered, with_line, then_lines, script_from, script_of, IsReading}
 use Rattle.script_cli.specs.{Verbs.{verb_named, queue_step, command_step, verb_of}, declared.fault.LineFault.{LineFault, TheVariants.{TooManyLines, BadNumber}}}
 use Rattle.script_cli.specs.declared.{fault.{RunFault.RunFault, ScriptFault.ScriptFault}, script.{Line.Line, Numbered.Numbered}, verb.CommandVerb.CommandVerb}
-use Rattle.script_cli.specs.declared.verb.{QueueVerb.QueueVerb, Verb.{Verb, TheVariants.{Reserve, Fill, Forge, Reset, Owners, OnQueue, OnCommand}}}
+use Rattle.script_cli.specs.declared.verb.{QueueVerb.QueueVerb, Verb.{Verb, TheVariants.{Reserve, Fill, CreateCq, Forge, Reset, Owners, OnQueue, OnCommand}}}
 use Rattle.machine_model.specs.{Claims.{claims_of, IsSound}, Script.{Table, table}, State.State, Step.times}
 use Rattle.page_ledger.specs.declared.owner.Owner.{Owner}
 use Rattle.block_image.specs.Blocks.{IsImage}
@@ -156,6 +156,18 @@ request_fits kind slba blocks ws low few =
     whatever_fits FitsRequest (named_word (codes "lr") fua.1) _ λ lr.
     ended_fits FitsRequest lr.1 _ (record { nsid = named; slba = low; blocks = few; pieces = fit })
 
+-- a vector, where one is named
+
+vector_named_fits : (ws : Words) → IfOk (vector_word ws) (λ r. IfSome r.0 (λ v. v < 2 ^ 16))
+vector_named_fits ws = then_fits (λ n. n.0 < 2 ^ 16) (λ r. IfSome r.0 (λ v. v < 2 ^ 16)) (number_word (2 ^ 16) ws) _ (number_fits (2 ^ 16) ws) λ n few. few
+
+vector_fits : (ws : Words) → IfOk (vector_words ws) (λ r. IfSome r.0 (λ v. v < 2 ^ 16))
+vector_fits ws = whatever_fits (λ r. IfSome r.0 (λ v. v < 2 ^ 16)) (named_word (codes "vector") ws) _ λ named. go named.0 named.1
+  where
+    go : (b : Bool) (rest : Words) → IfOk (if b then vector_word rest else Ok (None, rest)) (λ r. IfSome r.0 (λ v. v < 2 ^ 16))
+    go true rest = vector_named_fits rest
+    go false rest = tt
+
 -- Lines by their verbs
 
 reserve_fits : (ws : Words) → IfOk (reserve_line ws) IsFitLine
@@ -174,6 +186,12 @@ fill_fits ws =
     whatever_fits IsFitLine (hex_word cid.1) _ λ bytes.
     no_more_fits bytes.1 _ tt
 
+create_cq_fits : (ws : Words) → IfOk (create_cq_line ws) IsFitLine
+create_cq_fits ws =
+    whatever_fits IsFitLine (number_word (2 ^ 16) ws) _ λ q.
+    then_fits (λ (r : Option ℕ × Words). IfSome r.0 (λ v. v < 2 ^ 16)) IsFitLine (vector_words q.1) _ (vector_fits q.1) λ vector fit.
+    no_more_fits vector.1 _ fit
+
 forge_fits : (ws : Words) → IfOk (forge_line ws) IsFitLine
 forge_fits ws =
     whatever_fits IsFitLine (number_word (2 ^ 16) ws) _ λ q.
@@ -188,7 +206,6 @@ queue_step_fits queue.Fetch q = tt
 queue_step_fits queue.Retire q = tt
 queue_step_fits queue.DeleteSq q = tt
 queue_step_fits queue.DeleteCq q = tt
-queue_step_fits queue.CreateCq q = tt
 queue_step_fits queue.CreateSq q = tt
 
 queue_fits : (verb : QueueVerb) (ws : Words) → IfOk (queue_line verb ws) IsFitLine
@@ -216,6 +233,7 @@ command_fits verb ws =
 verb_fits : (ws : Words) (verb : Verb) → IfOk (verb_line ws verb) IsFitLine
 verb_fits ws Reserve = reserve_fits ws
 verb_fits ws Fill = fill_fits ws
+verb_fits ws CreateCq = create_cq_fits ws
 verb_fits ws Forge = forge_fits ws
 verb_fits ws Reset = no_more_fits ws (line.Step step.Reset) tt
 verb_fits ws Owners = no_more_fits ws line.Owners tt

@@ -7,7 +7,7 @@ use Rattle.script_cli.specs.{Lines.words, Numbers.{number, hex, sixteen_bytes, k
 use Rattle.script_cli.specs.declared.fault.{LineError.LineError, LineFault.LineFault}
 use Rattle.script_cli.specs.declared.fault.LineFault.TheVariants.{LongLine, NotAscii, UnknownVerb, MissingWord, BadKind, BadNumber, BadHex, BadPiece, ExtraWord}
 use Rattle.script_cli.specs.declared.{script.Line.Line, verb.{CommandVerb.CommandVerb, QueueVerb.QueueVerb, Verb.Verb}}
-use Rattle.script_cli.specs.declared.verb.Verb.TheVariants.{Reserve, Fill, Forge, Reset, Owners, OnQueue, OnCommand}
+use Rattle.script_cli.specs.declared.verb.Verb.TheVariants.{Reserve, Fill, CreateCq, Forge, Reset, Owners, OnQueue, OnCommand}
 use Rattle.script_cli.specs.declared.fault.LineError.TheVariants as error
 use Rattle.script_cli.specs.declared.script.Line.TheVariants as line
 use Rattle.step_core.specs.declared.step.Step.TheVariants as step
@@ -64,6 +64,17 @@ nsid_words ws = do
   named ← named_word (codes "nsid") ws
   if named.0 then namespace_word named.1 else Ok (1, named.1)
 
+-- the vector that is named, or else none
+abbrev pub vector_word : Words → Result (Option ℕ × Words) LineFault
+vector_word ws = do
+  n ← number_word (2 ^ 16) ws
+  Ok (Some n.0, n.1)
+
+abbrev pub vector_words : Words → Result (Option ℕ × Words) LineFault
+vector_words ws = do
+  named ← named_word (codes "vector") ws
+  if named.0 then vector_word named.1 else Ok (None, named.1)
+
 -- a word that stands behind the pieces
 abbrev pub begins_option : List ℕ → Bool
 begins_option word = bytes_eq word (codes "nsid") || bytes_eq word (codes "fua") || bytes_eq word (codes "lr")
@@ -114,6 +125,12 @@ fill_line ws = do
   bytes ← hex_word cid.1
   nothing_more bytes.1 (line.Step (step.Fill q.0 cid.0 bytes.0))
 
+abbrev pub create_cq_line : Words → Result Line LineFault
+create_cq_line ws = do
+  q ← number_word (2 ^ 16) ws
+  vector ← vector_words q.1
+  nothing_more vector.1 (line.Step (step.CreateCq q.0 vector.0))
+
 abbrev pub forge_line : Words → Result Line LineFault
 forge_line ws = do
   q ← number_word (2 ^ 16) ws
@@ -136,6 +153,7 @@ command_line verb ws = do
 abbrev pub verb_line : Words → Verb → Result Line LineFault
 verb_line ws Reserve = reserve_line ws
 verb_line ws Fill = fill_line ws
+verb_line ws CreateCq = create_cq_line ws
 verb_line ws Forge = forge_line ws
 verb_line ws Reset = nothing_more ws (line.Step step.Reset)
 verb_line ws Owners = nothing_more ws line.Owners

@@ -1,7 +1,7 @@
 -- The verbs, their words, and the steps of those that are told a queue or a command alone.
 use Rattle.std.specs.{Prelude.{ℕ, Option, Some, None, List, [], ◌∷◌, codes, if◌then◌else◌}, Str.bytes_eq}
 use Rattle.script_cli.specs.declared.verb.{CommandVerb.CommandVerb, QueueVerb.QueueVerb, Verb.Verb}
-use Rattle.script_cli.specs.declared.verb.Verb.TheVariants.{Reserve, Fill, Forge, Reset, Owners, OnQueue, OnCommand}
+use Rattle.script_cli.specs.declared.verb.Verb.TheVariants.{Reserve, Fill, CreateCq, Forge, Reset, Owners, OnQueue, OnCommand}
 use Rattle.step_core.specs.Values.{Step}
 use Rattle.script_cli.specs.declared.verb.CommandVerb.TheVariants as command
 use Rattle.script_cli.specs.declared.verb.QueueVerb.TheVariants as queue
@@ -14,7 +14,6 @@ queue_verb_text queue.Fetch = codes "fetch"
 queue_verb_text queue.Retire = codes "retire"
 queue_verb_text queue.DeleteSq = codes "delete_sq"
 queue_verb_text queue.DeleteCq = codes "delete_cq"
-queue_verb_text queue.CreateCq = codes "create_cq"
 queue_verb_text queue.CreateSq = codes "create_sq"
 
 abbrev pub command_verb_text : CommandVerb → List ℕ
@@ -31,6 +30,7 @@ command_verb_text command.Abort = codes "abort"
 abbrev pub verb_text : Verb → List ℕ
 verb_text Reserve = codes "reserve"
 verb_text Fill = codes "fill"
+verb_text CreateCq = codes "create_cq"
 verb_text Forge = codes "forge"
 verb_text Reset = codes "reset"
 verb_text Owners = codes "owners"
@@ -41,7 +41,7 @@ abbrev pub all_verbs : List Verb
 all_verbs =
     Reserve ∷ Fill ∷ OnCommand command.Build ∷ OnCommand command.Submit ∷ OnCommand command.Cancel ∷ OnCommand command.Collect
     ∷ OnCommand command.Gather ∷ OnCommand command.Release ∷ OnQueue queue.Ring ∷ OnQueue queue.Reap ∷ OnQueue queue.Fetch
-    ∷ OnQueue queue.Retire ∷ OnQueue queue.DeleteSq ∷ OnQueue queue.DeleteCq ∷ OnQueue queue.CreateCq ∷ OnQueue queue.CreateSq
+    ∷ OnQueue queue.Retire ∷ OnQueue queue.DeleteSq ∷ OnQueue queue.DeleteCq ∷ CreateCq ∷ OnQueue queue.CreateSq
     ∷ OnCommand command.Walk ∷ OnCommand command.Complete ∷ OnCommand command.Abort ∷ Forge ∷ Reset ∷ Owners ∷ []
 
 -- the first of some verbs that a word names
@@ -60,7 +60,6 @@ queue_step queue.Fetch q = step.Fetch q
 queue_step queue.Retire q = step.Retire q
 queue_step queue.DeleteSq q = step.DeleteSq q
 queue_step queue.DeleteCq q = step.DeleteCq q
-queue_step queue.CreateCq q = step.CreateCq q
 queue_step queue.CreateSq q = step.CreateSq q
 
 abbrev pub command_step : CommandVerb → ℕ → ℕ → Step
@@ -92,7 +91,7 @@ verb_of (step.Release q cid) = OnCommand command.Release
 verb_of (step.Abort q cid) = OnCommand command.Abort
 verb_of (step.DeleteSq q) = OnQueue queue.DeleteSq
 verb_of (step.DeleteCq q) = OnQueue queue.DeleteCq
-verb_of (step.CreateCq q) = OnQueue queue.CreateCq
+verb_of (step.CreateCq q vector) = CreateCq
 verb_of (step.CreateSq q) = OnQueue queue.CreateSq
 verb_of (step.Retire q) = OnQueue queue.Retire
 verb_of (step.Forge q slot bytes) = Forge

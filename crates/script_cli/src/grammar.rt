@@ -3,7 +3,7 @@
 ghost use Rattle.std.specs.Prelude.{◌≡◌, [], Ok, MatchResult};
 ghost use Rattle.std.specs.List.{list_any};
 ghost use Rattle.script_cli.specs.declared.verb.Verb.TheVariants.{Owners, Reset};
-ghost use Rattle.script_cli.specs.Grammar.{pieces_from, request_words, begins_option as spec_begins_option, reserve_line as spec_reserve_line, fill_line as spec_fill_line, forge_line as spec_forge_line, queue_line as spec_queue_line, command_line as spec_command_line, verb_line as spec_verb_line, line_of_words, begins_comment as spec_begins_comment, begins_with_hash as spec_begins_with_hash, is_high, words_of as spec_words_of, line_of, IsErrorOf, IsReadFrom};
+ghost use Rattle.script_cli.specs.Grammar.{pieces_from, request_words, begins_option as spec_begins_option, reserve_line as spec_reserve_line, fill_line as spec_fill_line, create_cq_line as spec_create_cq_line, forge_line as spec_forge_line, queue_line as spec_queue_line, command_line as spec_command_line, verb_line as spec_verb_line, line_of_words, begins_comment as spec_begins_comment, begins_with_hash as spec_begins_with_hash, is_high, words_of as spec_words_of, line_of, IsErrorOf, IsReadFrom};
 
 use crate::fault::{LineError, LineFault};
 use crate::script::Line;
@@ -28,6 +28,9 @@ pub const FUA: &str = "fua";
 
 /// The word of Limited Retry.
 pub const LR: &str = "lr";
+
+/// The word behind which the vector of a completion queue's interrupts stands.
+pub const VECTOR: &str = "vector";
 
 /// Whether a word stands behind the pieces of a request.
 pub fn begins_option(word: &[u8]) -> bool
@@ -118,6 +121,16 @@ fn reset_line(words: &mut Words<'_>) -> Result<Line, LineFault>
     Ok(Line::Step(Step::Reset))
 }
 
+/// What follows `create_cq`.
+fn create_cq_line(words: &mut Words<'_>) -> Result<Line, LineFault>
+    ensures { result ≡ spec_create_cq_line words.old }
+{
+    let q = words.number16()?;
+    let vector = words.vector()?;
+    words.end()?;
+    Ok(Line::Step(Step::CreateCq { q, vector }))
+}
+
 /// What follows `fill`.
 fn fill_line(alloc: Global, words: &mut Words<'_>) -> Result<Line, LineError>
     ensures { IsReadFrom (spec_fill_line words.old) result }
@@ -159,6 +172,7 @@ fn verb_line(alloc: Global, verb: Verb, words: &mut Words<'_>) -> Result<Line, L
     match verb {
         Verb::Reserve => reserve_line(alloc, words),
         Verb::Fill => fill_line(alloc, words),
+        Verb::CreateCq => Ok(create_cq_line(words)?),
         Verb::Forge => forge_line(alloc, words),
         Verb::Reset => Ok(reset_line(words)?),
         Verb::Owners => Ok(owners_line(words)?),

@@ -21,8 +21,6 @@ pub enum QueueVerb {
     DeleteSq,
     /// `delete_cq`
     DeleteCq,
-    /// `create_cq`
-    CreateCq,
     /// `create_sq`
     CreateSq,
 }
@@ -57,6 +55,8 @@ pub enum Verb {
     Reserve,
     /// `fill`
     Fill,
+    /// `create_cq`
+    CreateCq,
     /// `forge`
     Forge,
     /// `reset`
@@ -81,7 +81,6 @@ impl QueueVerb {
             QueueVerb::Retire => "retire",
             QueueVerb::DeleteSq => "delete_sq",
             QueueVerb::DeleteCq => "delete_cq",
-            QueueVerb::CreateCq => "create_cq",
             QueueVerb::CreateSq => "create_sq",
         }
     }
@@ -97,7 +96,6 @@ impl QueueVerb {
             QueueVerb::Retire => Step::Retire { q },
             QueueVerb::DeleteSq => Step::DeleteSq { q },
             QueueVerb::DeleteCq => Step::DeleteCq { q },
-            QueueVerb::CreateCq => Step::CreateCq { q },
             QueueVerb::CreateSq => Step::CreateSq { q },
         }
     }
@@ -155,7 +153,7 @@ pub const VERBS: [Verb; 22] = [
     Verb::OnQueue(QueueVerb::Retire),
     Verb::OnQueue(QueueVerb::DeleteSq),
     Verb::OnQueue(QueueVerb::DeleteCq),
-    Verb::OnQueue(QueueVerb::CreateCq),
+    Verb::CreateCq,
     Verb::OnQueue(QueueVerb::CreateSq),
     Verb::OnCommand(CommandVerb::Walk),
     Verb::OnCommand(CommandVerb::Complete),
@@ -211,6 +209,7 @@ impl Verb {
         match self {
             Verb::Reserve => "reserve",
             Verb::Fill => "fill",
+            Verb::CreateCq => "create_cq",
             Verb::Forge => "forge",
             Verb::Reset => "reset",
             Verb::Owners => "owners",
@@ -248,7 +247,7 @@ impl Verb {
             Step::Abort { .. } => Verb::OnCommand(CommandVerb::Abort),
             Step::DeleteSq { .. } => Verb::OnQueue(QueueVerb::DeleteSq),
             Step::DeleteCq { .. } => Verb::OnQueue(QueueVerb::DeleteCq),
-            Step::CreateCq { .. } => Verb::OnQueue(QueueVerb::CreateCq),
+            Step::CreateCq { .. } => Verb::CreateCq,
             Step::CreateSq { .. } => Verb::OnQueue(QueueVerb::CreateSq),
             Step::Retire { .. } => Verb::OnQueue(QueueVerb::Retire),
             Step::Forge { .. } => Verb::Forge,

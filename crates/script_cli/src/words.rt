@@ -2,14 +2,14 @@
 
 ghost use Rattle.std.specs.Prelude.{◌≡◌, ◌≤◌, ◌^◌, ◌∷◌, [], length, true, false, Ok, Err, MatchOption, MatchResult};
 ghost use Rattle.std.specs.List.{position_or_len};
-ghost use Rattle.script_cli.specs.Grammar.{number_word, kind_word, hex_word, sixteen_bytes_word, namespace_word, named_word, nsid_words, begins_option as spec_begins_option, ends_pieces, nothing_more, IsErrorOf};
+ghost use Rattle.script_cli.specs.Grammar.{number_word, kind_word, hex_word, sixteen_bytes_word, namespace_word, named_word, nsid_words, vector_words, begins_option as spec_begins_option, ends_pieces, nothing_more, IsErrorOf};
 ghost use Rattle.script_cli.specs.Lines.{is_blank as spec_is_blank, is_solid, words};
 ghost use Rattle.script_cli.specs.declared.fault.LineFault.TheVariants.{MissingWord};
 ghost use Rattle.script_cli.specs.declared.script.Line.{Line};
 ghost use Rattle.io_commands.specs.Asked.{Request};
 
 use crate::fault::{LineError, LineFault};
-use crate::grammar::{NSID, begins_option};
+use crate::grammar::{NSID, VECTOR, begins_option};
 use crate::values::{bytes, kind, number_below, number16, number32, number64, sixteen_bytes};
 use io_commands::Kind;
 use std::alloc::Global;
@@ -174,6 +174,16 @@ impl<'a> Words<'a> {
         } else {
             Ok(1)
         }
+    }
+
+    /// Takes the vector of a completion queue's interrupts; none where no vector is named.
+    pub(crate) fn vector(&mut self) -> Result<Option<u16>, LineFault>
+        ensures { MatchResult result (λ v. vector_words self.old ≡ Ok (v, self.new)) (λ fault. vector_words self.old ≡ Err fault) }
+    {
+        if !self.take_named(VECTOR) {
+            return Ok(None);
+        }
+        Ok(Some(self.number16()?))
     }
 
     /// Takes a number of 64 bits.

@@ -56,6 +56,8 @@ pub fn lines_have_first_faults()
     ensures no_namespace { line_of (codes "reserve 1 read 0 1 0+512 nsid") ≡ Err fault.MissingWord }
     ensures namespace_0 { line_of (codes "reserve 1 read 0 1 0+512 nsid 0") ≡ Err fault.BadNumber }
     ensures namespace_too_large { line_of (codes "reserve 1 read 0 1 0+512 nsid 4294967296") ≡ Err fault.BadNumber }
+    ensures no_vector { line_of (codes "create_cq 1 vector") ≡ Err fault.MissingWord }
+    ensures vector_too_large { line_of (codes "create_cq 1 vector 65536") ≡ Err fault.BadNumber }
     ensures odd_hex { line_of (codes "fill 1 0 ABC") ≡ Err fault.BadHex }
     ensures short_forge { line_of (codes "forge 1 0 00") ≡ Err fault.BadHex }
     ensures jobs { line_of (codes "job 0 1 read 0 1 0+512") ≡ Err fault.UnknownVerb }
@@ -86,6 +88,10 @@ pub fn faults_have_an_order()
     ensures flag_twice { line_of (codes "reserve 1 read 0 1 0+512 fua fua") ≡ Err fault.ExtraWord }
     ensures namespace_before_flags { line_of (codes "reserve 1 read 0 1 0+512 fua nsid 2") ≡ Err fault.ExtraWord }
     ensures piece_behind_flag { line_of (codes "reserve 1 read 0 1 0+512 fua 0+512") ≡ Err fault.ExtraWord }
+    ensures unnamed_vector { line_of (codes "create_cq 1 3") ≡ Err fault.ExtraWord }
+    ensures vector_twice { line_of (codes "create_cq 1 vector 3 vector 3") ≡ Err fault.ExtraWord }
+    ensures queue_before_vector { line_of (codes "create_cq x vector y") ≡ Err fault.BadNumber }
+    ensures vector_of_submissions { line_of (codes "create_sq 1 vector 3") ≡ Err fault.ExtraWord }
     ensures return_in_word { line_of (codes "ring 1" ++ 13 ∷ []) ≡ Err fault.BadNumber }
     ensures lone_return { line_of (13 ∷ []) ≡ Err fault.UnknownVerb }
 {}
@@ -110,7 +116,10 @@ pub fn lines_are_steps()
     ensures fill { line_of (codes "fill 1 0 ABCD") ≡ Ok (line.Step (step.Fill 1 0 (171 ∷ 205 ∷ []))) }
     ensures abort { line_of (codes "abort 1 0") ≡ Ok (line.Step (step.Abort 1 0)) }
     ensures delete_cq { line_of (codes "delete_cq 1") ≡ Ok (line.Step (step.DeleteCq 1)) }
-    ensures create_cq { line_of (codes "create_cq 1") ≡ Ok (line.Step (step.CreateCq 1)) }
+    ensures create_cq { line_of (codes "create_cq 1") ≡ Ok (line.Step (step.CreateCq 1 None)) }
+    ensures create_cq_with_interrupts { line_of (codes "create_cq 1 vector 3") ≡ Ok (line.Step (step.CreateCq 1 (Some 3))) }
+    ensures least_vector { line_of (codes "create_cq 1 vector 0") ≡ Ok (line.Step (step.CreateCq 1 (Some 0))) }
+    ensures largest_vector { line_of (codes "create_cq 1 vector 65535") ≡ Ok (line.Step (step.CreateCq 1 (Some 65535))) }
     ensures create_sq { line_of (codes "create_sq 1") ≡ Ok (line.Step (step.CreateSq 1)) }
     ensures retire { line_of (codes "retire 1") ≡ Ok (line.Step (step.Retire 1)) }
     ensures reset { line_of (codes "reset") ≡ Ok (line.Step step.Reset) }

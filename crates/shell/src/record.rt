@@ -1,7 +1,7 @@
 //! What a session did, kept as a transcript.
 
 use script_cli::transcripts::{MAX_TRANSCRIPT, Options};
-use script_cli::{FUA, LR, NSID, Verb, append_counts, append_reply};
+use script_cli::{FUA, LR, NSID, VECTOR, Verb, append_counts, append_reply};
 use std::alloc::{AllocError, Global};
 use step_core::{Counts, Flags, Kind, Piece, Reply, Request, Step};
 
@@ -43,6 +43,14 @@ fn put_options(out: &mut String, nsid: u32, flags: Flags) -> Result<(), AllocErr
     Ok(())
 }
 
+/// Puts the words of a vector, where there is one.
+fn put_vector(out: &mut String, vector: Option<u16>) -> Result<(), AllocError> {
+    match vector {
+        Some(vector) => write!(out, " {VECTOR} {vector}"),
+        None => Ok(()),
+    }
+}
+
 /// Puts the words of a request.
 fn put_request(out: &mut String, request: &Request) -> Result<(), AllocError> {
     let (kind, slba, blocks) = (kind_name(request.kind), request.slba, request.blocks);
@@ -71,6 +79,10 @@ fn put_words(out: &mut String, step: &Step) -> Result<(), AllocError> {
             write!(out, " {q} {slot}")?;
             put_hex(out, bytes)
         }
+        Step::CreateCq { q, vector } => {
+            write!(out, " {q}")?;
+            put_vector(out, *vector)
+        }
         Step::Build { q, cid }
         | Step::Submit { q, cid }
         | Step::Cancel { q, cid }
@@ -85,7 +97,6 @@ fn put_words(out: &mut String, step: &Step) -> Result<(), AllocError> {
         | Step::Reap { q }
         | Step::DeleteSq { q }
         | Step::DeleteCq { q }
-        | Step::CreateCq { q }
         | Step::CreateSq { q }
         | Step::Retire { q } => write!(out, " {q}"),
         Step::Reset => Ok(()),

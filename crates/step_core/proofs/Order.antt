@@ -75,6 +75,7 @@ asked_at t what e at = ap asked (inside at)
 -- a step whose numbers fit is a proper event
 proper : (t : Table) (what : Step) → IsTableInOrder t → IsFitStep what → (e : Event) → event_at t what ≡ Some e → IsProper e
 proper t (step.Reserve q request) h fit e at = subst IsProper (inside at) fit
+proper t (step.CreateCq q vector) h fit e at = subst IsProper (inside at) fit
 proper t (step.Forge q slot bytes) h fit e at = subst IsProper (inside at) fit
 proper t (step.Submit q cid) h fit e at = found_event IsProper events.Submit (draft_of q cid t.drafts) e (λ d is. all-found IsProperDraft (is_draft q cid) t.drafts d is h.drafts) at
 proper t (step.Cancel q cid) h fit e at = found_event IsProper events.Cancel (draft_of q cid t.drafts) e (λ d is. all-found IsProperDraft (is_draft q cid) t.drafts d is h.drafts) at

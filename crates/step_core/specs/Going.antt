@@ -1,6 +1,6 @@
 -- Benches go on: each step whose numbers fit has an answer, from each table that steps of a bench lead to; what they tell of its controller;
 -- and which of their runs are trusted.
-use Rattle.std.specs.{List.AllByRecursion, Prelude.{◌≡◌, ℕ, Bool, true, false, ◌&&◌, ◌||◌, not, IsTrue, None, List, ◌∷◌, length}}
+use Rattle.std.specs.{List.AllByRecursion, Prelude.{◌≡◌, ◌<◌, ◌^◌, ℕ, Bool, true, false, ◌&&◌, ◌||◌, not, IsTrue, None, IfSome, List, ◌∷◌, length}}
 use Rattle.block_image.specs.Blocks.{IsImage}
 use Rattle.io_commands.specs.Requests.{FitsRequest}
 use Rattle.machine_model.specs.{Events.Event, Proper.{IsProper, IsProperDraft}, Script.{Table, table}, Touch.{stays_allowed, stays_own}, Trusted.TrustedRun}
@@ -11,9 +11,10 @@ use Rattle.machine_model.specs.Events as events
 use Rattle.step_core.specs.declared.step.Step.TheVariants as step
 use Rattle.step_core.specs.declared.step.Reply.TheVariants as reply
 
--- a step whose numbers fit: a request's, and the 16 bytes of an entry
+-- a step whose numbers fit: a request's, a vector of 16 bits, and the 16 bytes of an entry
 abbrev pub IsFitStep : Step → Type 0
 IsFitStep (step.Reserve q request) = FitsRequest request
+IsFitStep (step.CreateCq q vector) = IfSome vector (λ v. v < 2 ^ 16)
 IsFitStep (step.Forge q slot bytes) = length bytes ≡ 16
 IsFitStep what = Unit {0}
 

@@ -54,7 +54,7 @@ accepted_step_touches n step.Reset = half_pages n Submission + half_pages n Comp
 accepted_step_touches n what = 0
 
 abbrev pub sent_step_touches : ℕ → Step → ℕ
-sent_step_touches n (step.CreateCq q) = half_pages n Completion + 1
+sent_step_touches n (step.CreateCq q vector) = half_pages n Completion + 1
 sent_step_touches n (step.CreateSq q) = half_pages n Submission + 1
 sent_step_touches n what = 1
 

@@ -99,18 +99,19 @@ impl<A: Allocator + Copy> World<A> {
 
     /// Makes the completion queue of a queue that is gone (NVM Express Base Specification 2.0, "Create I/O Completion Queue command",
     /// section 5.4): its half is granted, in and zero, and the command that creates it stands behind the tail of queue 0 under the
-    /// identifier that is answered.
+    /// identifier that is answered. The command tells the device the vector of its interrupts, or that it is polled; this controller
+    /// raises none.
     ///
     /// # Errors
     ///
     /// Nothing changed. 1. `NoQueue` for queue 0 and an unknown queue. 2. `WrongState` where the queue is not gone. 3. `Outstanding` where a
     /// command of the queue is outstanding. 4. `NoIdentifier` where each identifier of queue 0 is outstanding. 5. `NoRun` where no run of so
     /// many consecutive pages is free. 6. `QueueFull` where the submission ring of queue 0 is full.
-    pub fn create_cq(&mut self, q: u16) -> Result<u16, Refusal>
-        ensures step { Step self.old.state (events.CreateCq q) (send_reply result) self.new.state }
-        ensures touches { Touches self.old.state.entries self.old.touches (events.CreateCq q) (send_reply result) self.new.touches }
+    pub fn create_cq(&mut self, q: u16, vector: Option<u16>) -> Result<u16, Refusal>
+        ensures step { Step self.old.state (events.CreateCq q vector) (send_reply result) self.new.state }
+        ensures touches { Touches self.old.state.entries self.old.touches (events.CreateCq q vector) (send_reply result) self.new.touches }
     {
-        self.host.create_cq(&mut self.store, q)
+        self.host.create_cq(&mut self.store, q, vector)
     }
 
     /// Makes the submission queue of a queue that is half made (NVM Express Base Specification 2.0, "Create I/O Submission Queue

@@ -158,6 +158,8 @@ pub enum Step<R = Request, B = Bytes> {
     CreateCq {
         /// The queue.
         q: u16,
+        /// The vector of its interrupts; none where it is polled.
+        vector: Option<u16>,
     },
     /// Send a creation of a submission queue.
     CreateSq {

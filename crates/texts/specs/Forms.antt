@@ -1,8 +1,8 @@
 -- What follows a verb.
 use Rattle.std.specs.Prelude.{◌++◌, ℕ, Bool, false, true, List, [], ◌∷◌, codes, if◌then◌else◌}
 use Rattle.script_cli.specs.Verbs.{verb_text}
-use Rattle.script_cli.specs.declared.verb.Verb.{Verb, TheVariants.{Fill, Forge, OnCommand, OnQueue, Owners, Reserve, Reset}}
-use Rattle.texts.specs.declared.faults.forms.Slot.{Slot, TheVariants.{Blocks, Bytes, CompletionSlot, EntryBytes, FirstBlock, Identifier, Kind, Namespace, Queue, Submitter}}
+use Rattle.script_cli.specs.declared.verb.Verb.{Verb, TheVariants.{CreateCq, Fill, Forge, OnCommand, OnQueue, Owners, Reserve, Reset}}
+use Rattle.texts.specs.declared.faults.forms.Slot.{Slot, TheVariants.{Blocks, Bytes, CompletionSlot, EntryBytes, FirstBlock, Identifier, Kind, Namespace, Queue, Submitter, Vector}}
 
 -- the name of a word that is wanted
 abbrev pub slot_name : Slot → List ℕ
@@ -13,6 +13,7 @@ slot_name Kind = codes "KIND"
 slot_name FirstBlock = codes "SLBA"
 slot_name Blocks = codes "BLOCKS"
 slot_name Namespace = codes "N"
+slot_name Vector = codes "N"
 slot_name Bytes = codes "HEX"
 slot_name EntryBytes = codes "HEX"
 slot_name (Submitter submitters) = codes "S"
@@ -24,6 +25,7 @@ slots_after Fill = Queue ∷ Identifier ∷ Bytes ∷ []
 slots_after Forge = Queue ∷ CompletionSlot ∷ EntryBytes ∷ []
 slots_after Reset = []
 slots_after Owners = []
+slots_after CreateCq = Queue ∷ []
 slots_after (OnQueue verb) = Queue ∷ []
 slots_after (OnCommand verb) = Queue ∷ Identifier ∷ []
 

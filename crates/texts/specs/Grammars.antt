@@ -3,7 +3,7 @@ use Rattle.std.specs.Fmt.{format_spec, padded}
 use Rattle.std.specs.Prelude.{◌-◌, ◌^◌, ◌++◌, ℕ, List, [], ◌∷◌, codes, map}
 use Rattle.entry_codec.specs.{Status.status_text, declared.{status.Status.Status, status_names.TheConstants.NAMES}}
 use Rattle.script_cli.specs.{Verbs.all_verbs, declared.verb.{CommandVerb.CommandVerb, QueueVerb.QueueVerb, Verb.Verb}}
-use Rattle.script_cli.specs.declared.verb.Verb.TheVariants.{Fill, Forge, OnCommand, OnQueue, Owners, Reserve, Reset}
+use Rattle.script_cli.specs.declared.verb.Verb.TheVariants.{CreateCq, Fill, Forge, OnCommand, OnQueue, Owners, Reserve, Reset}
 use Rattle.script_cli.specs.declared.verb.CommandVerb.TheVariants as command
 use Rattle.script_cli.specs.declared.verb.QueueVerb.TheVariants as queue
 use Rattle.texts.specs.{Forms.form_of, declared.faults.grammar.TheConstants.{BEGINNING, END, LAST}}
@@ -16,7 +16,6 @@ about_queue queue.Fetch = codes "the controller takes an entry"
 about_queue queue.Retire = codes "gives up a queue whose submission half is deleted"
 about_queue queue.DeleteSq = codes "asks to drop a queue's submission half, on queue 0"
 about_queue queue.DeleteCq = codes "asks to drop a queue's completion half, on queue 0"
-about_queue queue.CreateCq = codes "asks to make a completion half again, on queue 0"
 about_queue queue.CreateSq = codes "asks to make a submission half again, on queue 0"
 
 -- what the step of a verb on a command does
@@ -35,6 +34,7 @@ about_command command.Abort = codes "asks to stop the command, on queue 0"
 abbrev pub about : Verb → List ℕ
 about Reserve = codes "reserves a command and its pages"
 about Fill = codes "writes the bytes of a Write or a Compare"
+about CreateCq = codes "asks to make a completion half again, on queue 0"
 about Forge = codes "overwrites a completion slot"
 about Reset = codes "resets the controller: queue 0 alone is left"
 about Owners = codes "prints who owns which page"

@@ -13,6 +13,6 @@ traced_of (step.Reap q) = Reap q
 traced_of (step.Abort q cid) = Entry 0
 traced_of (step.DeleteSq q) = Entry 0
 traced_of (step.DeleteCq q) = Entry 0
-traced_of (step.CreateCq q) = Entry 0
+traced_of (step.CreateCq q vector) = Entry 0
 traced_of (step.CreateSq q) = Entry 0
 traced_of what = Other

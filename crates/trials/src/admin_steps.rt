@@ -60,10 +60,10 @@ impl Session {
         self.note(sent, Sent::DeleteCq(q))
     }
 
-    /// Sends the creation of a completion queue.
+    /// Sends the creation of a completion queue, with interrupts on the vector of its number.
     pub fn create_cq(&mut self, course: &mut Course) -> Result<Answer, AllocError> {
         let q = self.queue_in(&mut course.random, HostState::Gone);
-        let sent = self.world.create_cq(q);
+        let sent = self.world.create_cq(q, Some(q));
         self.note(sent, Sent::CreateCq(q))
     }
 

@@ -167,8 +167,8 @@ event cs s e reply ok c holds share =
       hears = λ q cid st what e r adm t heard w quiet unmade. (told q e).shares;
       notes = λ q cid st what e r k t heard w. shares_left n k (λ x. record x { state = _ }) (a.heard q e s).host.queues cs (λ x. (refl, refl)) (told q e).shares;
       frees = λ q cid st what e r k queue t heard w at alone good. behind q e k a.gone (λ x ex. same at ex (grind arith));
-      makes_cq = λ q cid st what e r k size base t heard w good. shares_left n k a.half_made (a.heard q e s).host.queues cs (λ x. (refl, refl)) (told q e).shares;
-      unmakes_cq = λ q cid st what e r k size base queue t heard w at bad. behind q e k a.gone (λ x ex. ap is_live_refusals (making_cq_as_heard s q cid st e r k size base holds heard w x ex));
+      makes_cq = λ q cid st what e r k size base vector t heard w good. shares_left n k a.half_made (a.heard q e s).host.queues cs (λ x. (refl, refl)) (told q e).shares;
+      unmakes_cq = λ q cid st what e r k size base vector queue t heard w at bad. behind q e k a.gone (λ x ex. ap is_live_refusals (making_cq_as_heard s q cid st e r k size base vector holds heard w x ex));
       makes_sq = λ q cid st what e r k size base t heard w good. shares_left n k a.live (a.heard q e s).host.queues cs (λ x. (refl, refl)) (told q e).shares;
       unmakes_sq = λ q cid st what e r k size base queue t heard w at bad. behind q e k a.unmade_sq (λ x ex. ap is_live_refusals (making_sq_as_heard s q cid st e r k size base holds heard w x ex));
       collects = λ q cid r f at held is. share;
@@ -176,7 +176,7 @@ event cs s e reply ok c holds share =
       aborts = λ q cid id none new. sent.shares;
       asks = λ q id queue none new live. shares_left n q a.deleting (change 0 (λ x. record x { ring = next_tail n x.ring }) hs) cs (λ x. (refl, refl)) sent.shares;
       drops = λ q id none new. sent.shares;
-      creates_cqs = λ q id first queue none new granted.
+      creates_cqs = λ q vector id first queue none new granted.
           shares_left n 0 (λ x. record x { ring = next_tail n x.ring }) (change q (a.making_cq (half_from Completion first s)) hs) cs (λ x. (refl, refl))
           (shares_past n q (a.making_cq (half_from Completion first s)) hs cs (λ x ex. same granted.there ex (ap is_live_refusals granted.state)) h);
       creates_sqs = λ q id first queue none new granted.

@@ -72,7 +72,7 @@ alike-admin (DeleteCq q) st s d d' b b' =
     (over s d b) (over s d' b')
     (alike-freed (λ queue. queue.cq_pages) a.gone q s d d' b b')
     refl
-alike-admin (CreateCq q n base) st s d d' b b' =
+alike-admin (CreateCq q n base vector) st s d d' b b' =
     alike-if b (is_success st) (a.on_host_queue q a.half_made (over s d b)) (a.on_host_queue q a.half_made (over s d' b'))
     (a.half_freed (λ queue. queue.cq_pages) a.gone q (over s d b)) (a.half_freed (λ queue. queue.cq_pages) a.gone q (over s d' b'))
     refl (alike-freed (λ queue. queue.cq_pages) a.gone q s d d' b b')
@@ -151,9 +151,9 @@ alike_after s d d' b b' (events.Release fin) events.Accepted c f z sees ok = ref
 alike_after s d d' b b' (events.Abort q cid) (events.Sent id) c f z sees ok = alike-sent (Abort q cid) id (admin_entry (Abort q cid) id) s d d' b b'
 alike_after s d d' b b' (events.DeleteSq q) (events.Sent id) c f z sees ok = ap (with_queue q a.deleting) (alike-sent (DeleteSq q) id (admin_entry (DeleteSq q) id) s d d' b b')
 alike_after s d d' b b' (events.DeleteCq q) (events.Sent id) c f z sees ok = alike-sent (DeleteCq q) id (admin_entry (DeleteCq q) id) s d d' b b'
-alike_after s d d' b b' (events.CreateCq q) (events.Sent id) c f z sees ok =
+alike_after s d d' b b' (events.CreateCq q vector) (events.Sent id) c f z sees ok =
     let pages = a.half_run Completion s in
-    let kind : AdminKind = CreateCq q s.entries (a.base_of pages) in
+    let kind : AdminKind = CreateCq q s.entries (a.base_of pages) vector in
     alike-sent kind id (admin_entry kind id) (a.on_host_queue q (a.making_cq pages) (a.half_granted pages s)) d d' b b'
 alike_after s d d' b b' (events.CreateSq q) (events.Sent id) c f z sees ok =
     let pages = a.half_run Submission s in
@@ -215,7 +215,7 @@ answers_same s d d' (events.Reserve q r) (events.Reserved dr) c h =
 answers_same s d d' (events.Abort q cid) (events.Sent id) c h = new_same s d d' 0 id h
 answers_same s d d' (events.DeleteSq q) (events.Sent id) c h = new_same s d d' 0 id h
 answers_same s d d' (events.DeleteCq q) (events.Sent id) c h = new_same s d d' 0 id h
-answers_same s d d' (events.CreateCq q) (events.Sent id) c h = new_same s d d' 0 id h
+answers_same s d d' (events.CreateCq q vector) (events.Sent id) c h = new_same s d d' 0 id h
 answers_same s d d' (events.CreateSq q) (events.Sent id) c h = new_same s d d' 0 id h
 answers_same s d d' (events.Fetch q) reply c h = absurd (true≢false c)
 answers_same s d d' (events.Walk q cid) reply c h = absurd (true≢false c)

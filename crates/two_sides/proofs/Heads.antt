@@ -584,8 +584,8 @@ heads_host s e reply ok c t g h =
           heads_state s.entries k (λ queue. record queue { state = if is_success st then Deleting true else Live }) u.host.queues (without_record q cid s.host.records) u.controller.queues (λ x. refl)
           (λ x ex open'. asked_serves x.state (asked_note s q cid st e r k g.stands.0 g.fit.asked heard w x ex)) (without q cid st e r heard);
       frees = λ q cid st what e r k queue told heard w at alone good. heads_out s.entries k a.gone (a.heard q e s).host.queues (without_record q cid s.host.records) (a.heard q e s).controller.queues (λ x. refl) (without q cid st e r heard);
-      makes_cq = λ q cid st what e r k n base told heard w good. heads_out s.entries k a.half_made (a.heard q e s).host.queues (without_record q cid s.host.records) (a.heard q e s).controller.queues (λ x. refl) (without q cid st e r heard);
-      unmakes_cq = λ q cid st what e r k n base queue told heard w at bad. heads_out s.entries k a.gone (a.heard q e s).host.queues (without_record q cid s.host.records) (a.heard q e s).controller.queues (λ x. refl) (without q cid st e r heard);
+      makes_cq = λ q cid st what e r k n base vector told heard w good. heads_out s.entries k a.half_made (a.heard q e s).host.queues (without_record q cid s.host.records) (a.heard q e s).controller.queues (λ x. refl) (without q cid st e r heard);
+      unmakes_cq = λ q cid st what e r k n base vector queue told heard w at bad. heads_out s.entries k a.gone (a.heard q e s).host.queues (without_record q cid s.host.records) (a.heard q e s).controller.queues (λ x. refl) (without q cid st e r heard);
       makes_sq = λ q cid st what e r k n base told heard w good.
           let u = a.heard q e s in
           heads_made s.entries k u.host.queues (without_record q cid s.host.records) u.controller.queues (λ x ex. fresh q cid st e r k n base heard w x ex) (without q cid st e r heard);
@@ -600,9 +600,9 @@ heads_host s e reply ok c t g h =
           heads_state s.entries q a.deleting u.host.queues u.host.records u.controller.queues (λ x. refl) (λ x ex open'. ap in_service (still_live s q 0 (next_tail s.entries) queue x live ex))
           (heads_sent (DeleteSq q) id s new.in_range (unrefused s (events.DeleteSq q) none).1.1.0 (λ queue e. ring_in s g 0 queue e) h);
       drops = λ q id none new. heads_sent (DeleteCq q) id s new.in_range (unrefused s (events.DeleteCq q) none).1.1.0 (λ queue e. ring_in s g 0 queue e) h;
-      creates_cqs = λ q id first queue none new granted.
+      creates_cqs = λ q vector id first queue none new granted.
           let pages = half_from Completion first s in
-          heads_sent (creates_cq q first s) id (grants_cq q first s) new.in_range (unrefused s (events.CreateCq q) none).1.1.1.0 (zero_ring (a.making_cq pages) q granted.other) (heads_out s.entries q (a.making_cq pages) s.host.queues s.host.records s.controller.queues (λ x. refl) h);
+          heads_sent (creates_cq q vector first s) id (grants_cq q first s) new.in_range (unrefused s (events.CreateCq q vector) none).1.1.1.0 (zero_ring (a.making_cq pages) q granted.other) (heads_out s.entries q (a.making_cq pages) s.host.queues s.host.records s.controller.queues (λ x. refl) h);
       creates_sqs = λ q id first queue none new granted.
           let pages = half_from Submission first s in
           heads_sent (creates_sq q first s) id (grants_sq q first s) new.in_range (unrefused s (events.CreateSq q) none).1.1.0 (zero_ring (a.making_sq pages) q granted.other) (heads_out s.entries q (a.making_sq pages) s.host.queues s.host.records s.controller.queues (λ x. refl) h);

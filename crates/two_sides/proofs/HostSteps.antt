@@ -201,18 +201,18 @@ module _ (s : Sides) (world : IsWorld s) (tied : AreTied s) (t : s.trusted ≡ t
       frees_half s.host.entries (byte_at s.pages) k h c
       (none_there h c x (freed_not_there (state_of s) k (is_success st) tied.agree (few h c x) good (carried (state_of s) q cid st e r (DeleteCq k) t tied.agree heard w))) stands
 
-  unmade_cq : (n base : ℕ) → r.work ≡ Management (CreateCq k n base) → is_success st ≡ false → (h : HostQueue) (c : ControllerQueue) → slice_get (a.heard q e (state_of s)).host.queues k ≡ Some h
+  unmade_cq : (n base : ℕ) (vector : Option ℕ) → r.work ≡ Management (CreateCq k n base vector) → is_success st ≡ false → (h : HostQueue) (c : ControllerQueue) → slice_get (a.heard q e (state_of s)).host.queues k ≡ Some h
       → slice_get (change q (controller.with_head v) s.controller.queues) k ≡ Some c → QueueStands s.host.entries (byte_at s.pages) k h c → QueueStands s.host.entries (byte_at s.pages) k (a.gone h) c
-  unmade_cq n base w bad h c at there stands =
+  unmade_cq n base vector w bad h c at there stands =
       let x = was s q v k e h c at there in
       frees_half s.host.entries (byte_at s.pages) k h c
-      (none_there h c x (unmade_not_there (state_of s) k n base (is_success st) tied.agree (few h c x) bad (carried (state_of s) q cid st e r (CreateCq k n base) t tied.agree heard w))) stands
+      (none_there h c x (unmade_not_there (state_of s) k n base vector (is_success st) tied.agree (few h c x) bad (carried (state_of s) q cid st e r (CreateCq k n base vector) t tied.agree heard w))) stands
 
   -- a completion queue is made
-  made_cq : (n base : ℕ) → r.work ≡ Management (CreateCq k n base) → (h : HostQueue) (c : ControllerQueue) → slice_get (a.heard q e (state_of s)).host.queues k ≡ Some h
+  made_cq : (n base : ℕ) (vector : Option ℕ) → r.work ≡ Management (CreateCq k n base vector) → (h : HostQueue) (c : ControllerQueue) → slice_get (a.heard q e (state_of s)).host.queues k ≡ Some h
       → QueueStands s.host.entries (byte_at s.pages) k h c → QueueStands s.host.entries (byte_at s.pages) k (a.half_made h) c
-  made_cq n base w h c at stands =
-      makes_half s.host.entries (byte_at s.pages) k h c (ap in_service (making_cq_as_heard (state_of s) q cid st e r k n base holds heard w h at)) stands
+  made_cq n base vector w h c at stands =
+      makes_half s.host.entries (byte_at s.pages) k h c (ap in_service (making_cq_as_heard (state_of s) q cid st e r k n base vector holds heard w h at)) stands
 
   -- a submission queue is made, or not
   made_sq : (n base : ℕ) → r.work ≡ Management (CreateSq k n base) → is_success st ≡ true → (h : HostQueue) (c : ControllerQueue) → slice_get (a.heard q e (state_of s)).host.queues k ≡ Some h
@@ -261,14 +261,14 @@ moves s world tied t =
           let x = hears s world tied t q e none heard.seen in
           reap_leads s tied q x.0 what (view (a.on_host_queue k a.gone (a.given_back queue.cq_pages (heard_without q cid e (state_of s))))) (some_named cid what told.names)
           (restated s q x.0 k a.gone (a.heard q e (state_of s)).host.queues (λ h. refl) (freed s world tied t q x.0 k cid st e r heard w good) x.1);
-      makes_cq = λ q cid st what e r k n base told heard w good none.
+      makes_cq = λ q cid st what e r k n base vector told heard w good none.
           let x = hears s world tied t q e none heard.seen in
           reap_leads s tied q x.0 what (view (a.on_host_queue k a.half_made (heard_without q cid e (state_of s)))) (some_named cid what told.names)
-          (restated s q x.0 k a.half_made (a.heard q e (state_of s)).host.queues (λ h. refl) (λ h c at there. made_cq s world tied t q x.0 k cid st e r heard n base w h c at) x.1);
-      unmakes_cq = λ q cid st what e r k n base queue told heard w at bad none.
+          (restated s q x.0 k a.half_made (a.heard q e (state_of s)).host.queues (λ h. refl) (λ h c at there. made_cq s world tied t q x.0 k cid st e r heard n base vector w h c at) x.1);
+      unmakes_cq = λ q cid st what e r k n base vector queue told heard w at bad none.
           let x = hears s world tied t q e none heard.seen in
           reap_leads s tied q x.0 what (view (a.on_host_queue k a.gone (a.given_back queue.cq_pages (heard_without q cid e (state_of s))))) (some_named cid what told.names)
-          (restated s q x.0 k a.gone (a.heard q e (state_of s)).host.queues (λ h. refl) (unmade_cq s world tied t q x.0 k cid st e r heard n base w bad) x.1);
+          (restated s q x.0 k a.gone (a.heard q e (state_of s)).host.queues (λ h. refl) (unmade_cq s world tied t q x.0 k cid st e r heard n base vector w bad) x.1);
       makes_sq = λ q cid st what e r k n base told heard w good none.
           let x = hears s world tied t q e none heard.seen in
           reap_leads s tied q x.0 what (view (a.on_host_queue k a.live (heard_without q cid e (state_of s)))) (some_named cid what told.names)
@@ -282,7 +282,7 @@ moves s world tied t =
       aborts = λ q cid id none new. tt;
       asks = λ q id queue none new live. tt;
       drops = λ q id none new. tt;
-      creates_cqs = λ q id first queue none new granted. tt;
+      creates_cqs = λ q vector id first queue none new granted. tt;
       creates_sqs = λ q id first queue none new granted. tt;
       retires = λ q queue none at deleted. tt;
       forges = λ q slot bytes queue none at. tt;
@@ -391,7 +391,7 @@ hosts_stepped s (events.Release fin) events.Accepted host pages world c f step o
 hosts_stepped s (events.Abort q cid) (events.Sent id) host pages world c f step over = host_stepped s _ _ host pages world c f step over (λ t. abort_ties s q cid id host pages world t step)
 hosts_stepped s (events.DeleteSq q) (events.Sent id) host pages world c f step over = host_stepped s _ _ host pages world c f step over (λ t. delete_sq_ties s q id host pages world t step)
 hosts_stepped s (events.DeleteCq q) (events.Sent id) host pages world c f step over = host_stepped s _ _ host pages world c f step over (λ t. delete_cq_ties s q id host pages world t step)
-hosts_stepped s (events.CreateCq q) (events.Sent id) host pages world c f step over = host_stepped s _ _ host pages world c f step over (λ t. create_cq_ties s q id host pages world t step)
+hosts_stepped s (events.CreateCq q vector) (events.Sent id) host pages world c f step over = host_stepped s _ _ host pages world c f step over (λ t. create_cq_ties s q vector id host pages world t step)
 hosts_stepped s (events.CreateSq q) (events.Sent id) host pages world c f step over = host_stepped s _ _ host pages world c f step over (λ t. create_sq_ties s q id host pages world t step)
 hosts_stepped s (events.Retire q) events.Accepted host pages world c f step over = host_stepped s _ _ host pages world c f step over (λ t. retire_ties s q host pages world t step)
 hosts_stepped s (events.Forge q slot bytes) reply host pages world c f step over = absurd (true≢false f)

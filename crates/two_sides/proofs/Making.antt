@@ -129,27 +129,34 @@ submission_shares n base i h c x =
 
 -- A creation that the controller fetches names the half that the host granted for it, where nothing was forged.
 
--- The command of an entry, by its opcode
+-- The command of an entry, by its opcode: that of a completion queue has a vector, or none
 
-record Makes (make : ℕ → ℕ → ℕ → AdminKind) (rs : List Record) (e : SubEntry) : Type 0 where
+record Makes {X : Type 0} (make : X → ℕ → ℕ → ℕ → AdminKind) (rs : List Record) (e : SubEntry) : Type 0 where
+  beside : X
   queue : ℕ
   size : ℕ
   base : ℕ
-  knows : Knows rs e.cid (make queue size base)
-  is : e ≡ admin_entry (make queue size base) e.cid
+  knows : Knows rs e.cid (make beside queue size base)
+  is : e ≡ admin_entry (make beside queue size base) e.cid
 
-creation : (make : ℕ → ℕ → ℕ → AdminKind) (code : ℕ) → ((adm : AdminKind) (cid : ℕ) → ((admin_entry adm cid).opcode == code) ≡ true → (q : ℕ) × (size : ℕ) × (base : ℕ) × (adm ≡ make q size base))
+creation : {X : Type 0} (make : X → ℕ → ℕ → ℕ → AdminKind) (code : ℕ) → ((adm : AdminKind) (cid : ℕ) → ((admin_entry adm cid).opcode == code) ≡ true → (x : X) × (q : ℕ) × (size : ℕ) × (base : ℕ) × (adm ≡ make x q size base))
     → (rs : List Record) (e : SubEntry) → EntryKnown rs e → (e.opcode == code) ≡ true → Makes make rs e
 creation make code only rs e (adm, knows, is) opcode =
-    let (q, size, base, same) = only adm e.cid (ap (λ (x : SubEntry). x.opcode == code) (sym is) ∙ opcode) in
-    record { queue = q; size = size; base = base; knows = subst (Knows rs e.cid) same knows; is = is ∙ ap (λ (k : AdminKind). admin_entry k e.cid) same }
+    let (x, q, size, base, same) = only adm e.cid (ap (λ (x : SubEntry). x.opcode == code) (sym is) ∙ opcode) in
+    record { beside = x; queue = q; size = size; base = base; knows = subst (Knows rs e.cid) same knows; is = is ∙ ap (λ (k : AdminKind). admin_entry k e.cid) same }
 
-only_cq : (adm : AdminKind) (cid : ℕ) → ((admin_entry adm cid).opcode == CREATE_IO_CQ) ≡ true → (q : ℕ) × (size : ℕ) × (base : ℕ) × (adm ≡ CreateCq q size base)
-only_cq (CreateCq q size base) cid e = (q, size, base, refl)
+abbrev making_of_cq : Option ℕ → (q size base : ℕ) → AdminKind
+making_of_cq vector q size base = CreateCq q size base vector
+
+abbrev making_of_sq : Unit {0} → (q size base : ℕ) → AdminKind
+making_of_sq x q size base = CreateSq q size base
+
+only_cq : (adm : AdminKind) (cid : ℕ) → ((admin_entry adm cid).opcode == CREATE_IO_CQ) ≡ true → (vector : Option ℕ) × (q : ℕ) × (size : ℕ) × (base : ℕ) × (adm ≡ making_of_cq vector q size base)
+only_cq (CreateCq q size base vector) cid e = (vector, q, size, base, refl)
 only_cq adm cid e = absurd (true≢false (sym e))
 
-only_sq : (adm : AdminKind) (cid : ℕ) → ((admin_entry adm cid).opcode == CREATE_IO_SQ) ≡ true → (q : ℕ) × (size : ℕ) × (base : ℕ) × (adm ≡ CreateSq q size base)
-only_sq (CreateSq q size base) cid e = (q, size, base, refl)
+only_sq : (adm : AdminKind) (cid : ℕ) → ((admin_entry adm cid).opcode == CREATE_IO_SQ) ≡ true → (x : Unit {0}) × (q : ℕ) × (size : ℕ) × (base : ℕ) × (adm ≡ making_of_sq x q size base)
+only_sq (CreateSq q size base) cid e = (tt, q, size, base, refl)
 only_sq adm cid e = absurd (true≢false (sym e))
 
 -- What it names
@@ -201,11 +208,11 @@ making_sq st e = absurd (true≢false (sym e))
 pub completion_granted : (s : Sides) → IsWorld s → (e : SubEntry) → EntryKnown s.host.host.records e → length s.host.host.queues ≤ 65536 → (h : HostQueue) (c : ControllerQueue)
     → slice_get s.host.host.queues (named_queue e) ≡ Some h → IsKnown s (named_queue e) h c → (e.opcode == CREATE_IO_CQ) ≡ true → c.cq_there ≡ false → IsGranted s.host.entries (named_base e) h c
 completion_granted s world e entry few h c at known code none =
-    let made = creation CreateCq CREATE_IO_CQ only_cq s.host.host.records e entry code in
+    let made = creation making_of_cq CREATE_IO_CQ only_cq s.host.host.records e entry code in
     let n = s.host.entries in
     let q = named_queue e in
     let (r, found, work) = made.knows in
-    let names : NamesItsHalf n s.host.host.queues (Management (CreateCq made.queue made.size made.base)) =
+    let names : NamesItsHalf n s.host.host.queues (Management (CreateCq made.queue made.size made.base made.beside)) =
     subst (NamesItsHalf n s.host.host.queues) work (all-found (λ r. NamesItsHalf n s.host.host.queues r.work) (is_at 0 e.cid) s.host.host.records r found world.sides.provided.creations) in
     let (size, queue, there, lies) = names in
     let its : made.queue ≡ q = sym (ap named_queue made.is ∙ low made.queue (made.size - 1) (omega (arith, queue_below s.host.host.queues made.queue queue there, few))) in
@@ -227,7 +234,7 @@ completion_granted s world e entry few h c at known code none =
 pub submission_granted : (s : Sides) → IsWorld s → (e : SubEntry) → EntryKnown s.host.host.records e → length s.host.host.queues ≤ 65536 → (h : HostQueue) (c : ControllerQueue)
     → slice_get s.host.host.queues (named_queue e) ≡ Some h → IsKnown s (named_queue e) h c → (e.opcode == CREATE_IO_SQ) ≡ true → c.cq_there ≡ true → IsGrantedBeside s.host.entries (named_base e) h c
 submission_granted s world e entry few h c at known code has =
-    let made = creation CreateSq CREATE_IO_SQ only_sq s.host.host.records e entry code in
+    let made = creation making_of_sq CREATE_IO_SQ only_sq s.host.host.records e entry code in
     let n = s.host.entries in
     let q = named_queue e in
     let (r, found, work) = made.knows in

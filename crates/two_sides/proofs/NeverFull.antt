@@ -377,7 +377,7 @@ no_cause s r (events.DeleteCq q) = (
     ),
   ),
 )
-no_cause s r (events.CreateCq q) = (
+no_cause s r (events.CreateCq q vector) = (
   (λ t. refl),
   λ there. (
     (λ t. refl),

@@ -417,8 +417,8 @@ named_so k b l is = ap (λ (x : Bool). x && b) (eq-eqb (k % 65536) k (omega (ari
 pub freed_not_there : (s : State) (k : ℕ) (ok : Bool) → SidesAgree s → k < 65536 → ok ≡ true → Carries s (DeleteCq k) ok → has_completions_at s.controller.queues k ≡ false
 freed_not_there s k ok agree l good says = grind arith
 
-pub unmade_not_there : (s : State) (k n base : ℕ) (ok : Bool) → SidesAgree s → k < 65536 → ok ≡ false → Carries s (CreateCq k n base) ok → has_completions_at s.controller.queues k ≡ false
-unmade_not_there s k n base ok agree l bad says = grind arith
+pub unmade_not_there : (s : State) (k n base : ℕ) (vector : Option ℕ) (ok : Bool) → SidesAgree s → k < 65536 → ok ≡ false → Carries s (CreateCq k n base vector) ok → has_completions_at s.controller.queues k ≡ false
+unmade_not_there s k n base vector ok agree l bad says = grind arith
 
 -- a submission queue that was not made is absent, and one_counting that was made is not
 pub unmade_absent : (s : State) (k n base : ℕ) (ok : Bool) → SidesAgree s → k < 65536 → ok ≡ false → Carries s (CreateSq k n base) ok → is_absent_at s.controller.queues k ≡ true

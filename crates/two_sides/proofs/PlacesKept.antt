@@ -474,8 +474,8 @@ places_host s e reply pr ok c t g h =
           (λ n p. past_same k (λ queue. record queue { state = if is_success st then Deleting true else Live }) hs n
           (λ x ex. (grind arith) ∙ sym (asked_serves x.state (asked_note s q cid st e r k g.stands.0 g.fit.asked heard w x ex))) ∙ p) (without q cid st e r heard);
       frees = λ q cid st what e r k queue told heard w at retired good pr. places_out k a.gone (heard_without q cid e s) (λ x. refl) (without q cid st e r heard);
-      makes_cq = λ q cid st what e r k n base told heard w good pr. places_out k a.half_made (heard_without q cid e s) (λ x. refl) (without q cid st e r heard);
-      unmakes_cq = λ q cid st what e r k n base queue told heard w at bad pr. places_out k a.gone (heard_without q cid e s) (λ x. refl) (without q cid st e r heard);
+      makes_cq = λ q cid st what e r k n base vector told heard w good pr. places_out k a.half_made (heard_without q cid e s) (λ x. refl) (without q cid st e r heard);
+      unmakes_cq = λ q cid st what e r k n base vector queue told heard w at bad pr. places_out k a.gone (heard_without q cid e s) (λ x. refl) (without q cid st e r heard);
       makes_sq = λ q cid st what e r k n base told heard w good pr. places_opens k a.live (heard_without q cid e s) (unstarted q cid st e r k n base heard w) (without q cid st e r heard);
       unmakes_sq = λ q cid st what e r k n base queue told heard w at bad pr. places_out k a.unmade_sq (heard_without q cid e s) (λ x. refl) (without q cid st e r heard);
       collects = λ q cid r f at held is pr.
@@ -488,7 +488,7 @@ places_host s e reply pr ok c t g h =
           places_hosts u.host.queues (change q a.deleting u.host.queues) u.host.records u.controller.queues u.controller.jobs
           (λ k p. past_same q a.deleting u.host.queues k (λ x e. sym (ap in_service (still_live s q 0 (next_tail s.entries) queue x live e))) ∙ p) (places_sent (DeleteSq q) id s h);
       drops = λ q id none new pr. places_sent (DeleteCq q) id s h;
-      creates_cqs = λ q id first queue none new granted pr. places_sent (creates_cq q first s) id (grants_cq q first s) (places_out q (a.making_cq (half_from Completion first s)) s (λ x. refl) h);
+      creates_cqs = λ q vector id first queue none new granted pr. places_sent (creates_cq q vector first s) id (grants_cq q first s) (places_out q (a.making_cq (half_from Completion first s)) s (λ x. refl) h);
       creates_sqs = λ q id first queue none new granted pr. places_sent (creates_sq q first s) id (grants_sq q first s) (places_out q (a.making_sq (half_from Submission first s)) s (λ x. refl) h);
       retires = λ q queue none at deleted pr. places_retire q queue s t none at deleted g h;
       forges = λ q slot bytes queue none at pr. h;

@@ -2,7 +2,7 @@
 use Rattle.machine_model.specs.After as a
 use Rattle.machine_model.specs.Events as events
 use Rattle.machine_model.specs.declared.words.HostState.TheVariants as states
-use Rattle.std.proofs.Common.{◌≡◌, ℕ, zero, suc, ◌+◌, ◌*◌, ◌-◌, ◌^◌, ◌<◌, ◌≤◌, ◌==◌, ◌++◌, ◌∷◌, [], Bool, true, false, not, Option, Some, None, is_none, List, length, map, slice_get, refl, ap, ap₂, sym, ◌∙◌, subst, arith, eqb-true, inl, inr}
+use Rattle.std.proofs.Common.{◌≡◌, ℕ, zero, suc, ◌+◌, ◌*◌, ◌-◌, ◌^◌, ◌<◌, ◌≤◌, ◌==◌, ◌++◌, ◌∷◌, [], Bool, true, false, not, Option, Some, None, IfSome, is_none, List, length, map, slice_get, refl, ap, ap₂, sym, ◌∙◌, subst, arith, eqb-true, inl, inr}
 use Rattle.std.proofs.lemmas.{Bool.{true≢false, not-false, and_parts, or_parts, OnTrue_at}, List.Folds.find_at, Option.slice_get_within}
 use Rattle.std.specs.{List.position_or_len, Option.option_map_or}
 use Rattle.machine_model.proofs.{Kept.service_is_reaped as served_reaped}
@@ -370,25 +370,30 @@ half_is_granted s world first run entry h x c can some =
     (λ k l. elsewhere s mid 0 h c entry can (first + k) (free_apart_from_queues s world 0 h (first + k) can.at (free s world count first run (first + k) (among-from first count k l))).0
     ∙ granted_zero s world count first run k l))
 
-pub create_cq_ties : (s : Sides) (q id : ℕ) (host : HostView) (pages : Pages) → IsWorld s → s.trusted ≡ true → HostStep s.host s.pages (events.CreateCq q) (events.Sent id) host pages
-    → Ties s (events.CreateCq q) (events.Sent id) host pages
-create_cq_ties s q id host pages world t step =
+-- the double word of interrupts on a vector of 16 bits is one
+vector_fits : (q n base : ℕ) (vector : Option ℕ) → IfSome vector (λ v. v < 2 ^ 16) → qualified_by (CreateCq q n base vector) < 2 ^ 32
+vector_fits q n base None fits = omega arith
+vector_fits q n base (Some v) fits = omega (arith, fits)
+
+pub create_cq_ties : (s : Sides) (q : ℕ) (vector : Option ℕ) (id : ℕ) (host : HostView) (pages : Pages) → IsWorld s → s.trusted ≡ true → HostStep s.host s.pages (events.CreateCq q vector) (events.Sent id) host pages
+    → Ties s (events.CreateCq q vector) (events.Sent id) host pages
+create_cq_ties s q vector id host pages world t step =
     let sends : Controller → Bool → List ℕ → State = λ d b ps.
-    a.sent (CreateCq q s.host.entries (a.base_of ps)) id (admin_entry (CreateCq q s.host.entries (a.base_of ps)) id) (a.on_host_queue q (a.making_cq ps) (a.half_granted ps (seen_by s d b))) in
+    a.sent (CreateCq q s.host.entries (a.base_of ps) vector) id (admin_entry (CreateCq q s.host.entries (a.base_of ps) vector) id) (a.on_host_queue q (a.making_cq ps) (a.half_granted ps (seen_by s d b))) in
     let is_gone_here : ((x : HostQueue) × (slice_get s.host.host.queues q ≡ Some x) × (is_gone x.state ≡ true)) → (x : HostQueue) → slice_get s.host.host.queues q ≡ Some x → is_gone x.state ≡ true = λ its x at.
     found_here (λ y. is_gone y.state ≡ true) s.host.host.queues q its.0 x its.1 at its.2 in
-    let causes = unrefused (state_of s) (events.CreateCq q) step.1.0 in
+    let causes = unrefused (state_of s) (events.CreateCq q vector) step.1.0 in
     let io = io_queue (state_of s) q causes.0 in
     let its = queue_found is_gone (state_of s) q (not-false _ causes.1.0) in
     let run = run_found (state_of s) Completion causes.1.1.1.1.0 in
     let n = s.host.entries in
     let half : List ℕ = pages_from run.0 (half_pages n Completion) in
-    let kind : AdminKind = CreateCq q n (a.base_of half) in
+    let kind : AdminKind = CreateCq q n (a.base_of half) vector in
     let few = few_entries s world q its.0 its.1 in
     let below = queue_below s world t is_gone q (not-false _ causes.1.0) in
-    made_ties s (events.CreateCq q) kind id host pages q (half_pages n Completion) run.0 (a.making_cq half) world t io run.1 causes.1.1.1.1.1.0 step.1.1.in_range (omega (arith, below, few)) (omega arith)
+    made_ties s (events.CreateCq q vector) kind id host pages q (half_pages n Completion) run.0 (a.making_cq half) world t io run.1 causes.1.1.1.1.1.0 step.1.1.in_range (omega (arith, below, few)) (vector_fits q n (a.base_of half) vector step.0)
     (λ d b. ap (λ (o : Option ℕ). sends d b (option_map_or (λ first. pages_from first (half_pages n Completion)) o [])) run.1)
-    (answer_as_machine s (events.CreateCq q) (events.Sent id) host pages refl refl step) refl step.2
+    (answer_as_machine s (events.CreateCq q vector) (events.Sent id) host pages refl refl step) refl step.2
     (λ h c can. record {
       lists = λ x y at there. let gone = is_gone_here its x at in
           absent_alike (byte_at (slot_written h (admin_entry kind id) (granted_pool s world (half_pages n Completion) run.0 run.1))) fresh_host_ring x.ring y

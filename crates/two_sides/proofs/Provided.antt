@@ -170,7 +170,7 @@ named_queue n half pages k q f hs base same (queue, at, lies) = elim (cases_Bool
 ]
 
 names_changed : (n k : ℕ) (f : HostQueue → HostQueue) (hs : List HostQueue) (w : Work) → LeavesNamed k f hs w → NamesItsHalf n hs w → NamesItsHalf n (change k f hs) w
-names_changed n k f hs (Management (CreateCq q size base)) leaves h = let x = named_queue n Completion (λ x. x.cq_pages) k q f hs base (λ same x e. leaves.cq (eq-eqb q k (sym same)) x e) (h.1, h.2, h.3) in (h.0, x.0, x.1, x.2)
+names_changed n k f hs (Management (CreateCq q size base vector)) leaves h = let x = named_queue n Completion (λ x. x.cq_pages) k q f hs base (λ same x e. leaves.cq (eq-eqb q k (sym same)) x e) (h.1, h.2, h.3) in (h.0, x.0, x.1, x.2)
 names_changed n k f hs (Management (CreateSq q size base)) leaves h = let x = named_queue n Submission (λ x. x.sq_pages) k q f hs base (λ same x e. leaves.sq (eq-eqb q k (sym same)) x e) (h.1, h.2, h.3) in (h.0, x.0, x.1, x.2)
 names_changed n k f hs work leaves h = tt
 
@@ -240,9 +240,9 @@ names_event s e reply ok c holds h =
       notes = λ q cid st what e r k t heard w fit.
           names_still s.entries k (λ queue. record queue { state = if is_success st then Deleting true else Live }) (a.heard q e s).host.queues (without_record q cid s.host.records) (λ x. refl) (λ x. refl) (told q e (without_record q cid s.host.records) (without q cid));
       frees = λ q cid st what e r k queue t heard w at alone good fit. freed q cid e k fit.0;
-      makes_cq = λ q cid st what e r k n base t heard w good fit.
+      makes_cq = λ q cid st what e r k n base vector t heard w good fit.
           names_still s.entries k a.half_made (a.heard q e s).host.queues (without_record q cid s.host.records) (λ x. refl) (λ x. refl) (told q e (without_record q cid s.host.records) (without q cid));
-      unmakes_cq = λ q cid st what e r k n base queue t heard w at bad fit. freed q cid e k fit.0;
+      unmakes_cq = λ q cid st what e r k n base vector queue t heard w at bad fit. freed q cid e k fit.0;
       makes_sq = λ q cid st what e r k n base t heard w good fit.
           names_still s.entries k a.live (a.heard q e s).host.queues (without_record q cid s.host.records) (λ x. refl) (λ x. refl) (told q e (without_record q cid s.host.records) (without q cid));
       unmakes_sq = λ q cid st what e r k n base queue t heard w at bad fit.
@@ -257,9 +257,9 @@ names_event s e reply ok c holds h =
       asks = λ q id queue none new live fit.
           names_still s.entries q a.deleting (change 0 (λ x. record x { ring = next_tail s.entries x.ring }) s.host.queues) (s.host.records ++ sent_record (DeleteSq q) id ∷ []) (λ x. refl) (λ x. refl) (sent (DeleteSq q) id s.host.queues tt h);
       drops = λ q id none new fit. sent (DeleteCq q) id s.host.queues tt h;
-      creates_cqs = λ q id first queue none new granted fit.
+      creates_cqs = λ q vector id first queue none new granted fit.
           let with_half = a.making_cq (half_from Completion first s) in
-          sent (creates_cq q first s) id (grants_cq q first s).host.queues (refl, with_half queue, get_changed q with_half s.host.queues queue granted.there, lies_at s.entries Completion first)
+          sent (creates_cq q vector first s) id (grants_cq q first s).host.queues (refl, with_half queue, get_changed q with_half s.host.queues queue granted.there, lies_at s.entries Completion first)
           (names_queues s.entries q with_half s.host.queues s.host.records
           (λ r within. record {
             cq = λ is x ex. absurd (none_before creates_cq_of is_making_cq s.host.records s.host.queues q queue r (completions_awaited s.host holds.creations) granted.there (ap is_making_cq granted.state) within is);
@@ -398,10 +398,10 @@ provided_host s e reply ok c holds h =
           (λ x ex p. noted s.entries x (is_success st) (asked_as_heard s q cid st e r k holds heard w x ex) p);
       frees = λ q cid st what e r k queue t heard w at alone good n. behind q cid e n k a.gone
           (λ x ex p. let same : queue ≡ x = cc (at, ex) in without_cq s.entries x (ap (λ (y : HostQueue). has_sq y.state) (sym same) ∙ alone_has_no_sq queue.state alone) p);
-      makes_cq = λ q cid st what e r k size base t heard w good n. behind q cid e n k a.half_made
-          (λ x ex p. in_state_of s.entries x MakingCq HalfMade (making_cq_as_heard s q cid st e r k size base holds heard w x ex) refl refl (λ m. refl) p);
-      unmakes_cq = λ q cid st what e r k size base queue t heard w at bad n. behind q cid e n k a.gone
-          (λ x ex p. without_cq s.entries x (ap has_sq (making_cq_as_heard s q cid st e r k size base holds heard w x ex)) p);
+      makes_cq = λ q cid st what e r k size base vector t heard w good n. behind q cid e n k a.half_made
+          (λ x ex p. in_state_of s.entries x MakingCq HalfMade (making_cq_as_heard s q cid st e r k size base vector holds heard w x ex) refl refl (λ m. refl) p);
+      unmakes_cq = λ q cid st what e r k size base vector queue t heard w at bad n. behind q cid e n k a.gone
+          (λ x ex p. without_cq s.entries x (ap has_sq (making_cq_as_heard s q cid st e r k size base vector holds heard w x ex)) p);
       makes_sq = λ q cid st what e r k size base t heard w good n. behind q cid e n k a.live
           (λ x ex p. in_state_of s.entries x MakingSq Live (making_sq_as_heard s q cid st e r k size base holds heard w x ex) refl refl (λ m. absurd (true≢false (sym m))) p);
       unmakes_sq = λ q cid st what e r k size base queue t heard w at bad n. behind q cid e n k a.unmade_sq
@@ -416,9 +416,9 @@ provided_host s e reply ok c holds h =
             sends.1,
           );
       drops = λ q id none new n. sent (DeleteCq q) id s.host.queues new (admin_in_use s.host.queues holds.admin) h.queues;
-      creates_cqs = λ q id first queue none new granted n.
+      creates_cqs = λ q vector id first queue none new granted n.
           let with_half = a.making_cq (half_from Completion first s) in
-          sent (creates_cq q first s) id (change q with_half s.host.queues) new (still_in_use q with_half granted.other)
+          sent (creates_cq q vector first s) id (change q with_half s.host.queues) new (still_in_use q with_half granted.other)
           (all_changed (HasHalves s.entries) q with_half s.host.queues
           (λ x ex p. let same : queue ≡ x = cc (granted.there, ex) in record {
             submission = half_same s.entries Submission (has_sq x.state) false x.sq_pages (ap (λ (y : HostQueue). has_sq y.state) (sym same) ∙ ap has_sq granted.state) p.submission;

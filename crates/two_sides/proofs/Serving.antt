@@ -301,8 +301,8 @@ serve_host_event s e reply ok c agree h =
       notes = λ q cid st what e r k told heard w. turned q e k (λ x. record x { state = _ })
           (λ x ex deleting. ap is_deleting (asked_as_heard s q cid st e r k holds heard w x ex));
       frees = λ q cid st what e r k queue told heard w at alone good. turned q e k a.gone (λ x ex deleting. absurd (true≢false (sym deleting)));
-      makes_cq = λ q cid st what e r k n base told heard w good. turned q e k a.half_made (λ x ex deleting. absurd (true≢false (sym deleting)));
-      unmakes_cq = λ q cid st what e r k n base queue told heard w at bad. turned q e k a.gone (λ x ex deleting. absurd (true≢false (sym deleting)));
+      makes_cq = λ q cid st what e r k n base vector told heard w good. turned q e k a.half_made (λ x ex deleting. absurd (true≢false (sym deleting)));
+      unmakes_cq = λ q cid st what e r k n base vector queue told heard w at bad. turned q e k a.gone (λ x ex deleting. absurd (true≢false (sym deleting)));
       makes_sq = λ q cid st what e r k n base told heard w good. turned q e k a.live (λ x ex deleting. absurd (true≢false (sym deleting)));
       unmakes_sq = λ q cid st what e r k n base queue told heard w at bad. turned q e k a.unmade_sq (λ x ex deleting. absurd (true≢false (sym deleting)));
       collects = λ q cid r f at held is. h;
@@ -310,10 +310,10 @@ serve_host_event s e reply ok c agree h =
       aborts = λ q cid id none new. sent (Abort q cid) id (λ z w. refl);
       asks = λ q id queue none new live. asked q id queue live.there live.live;
       drops = λ q id none new. sent (DeleteCq q) id (λ z w. dropping q z none w);
-      creates_cqs = λ q id first queue none new granted.
-          serve_ring (next_tail s.entries) 0 (change q (a.making_cq (half_from Completion first s)) hs) (posted (creates_cq q first s) id) (waiting (posted (creates_cq q first s) id))
-          (serve_host (a.making_cq (half_from Completion first s)) q hs (posted (creates_cq q first s) id) (waiting (posted (creates_cq q first s) id)) (λ x ex deleting. absurd (true≢false (sym deleting)))
-          (serve_posted (admin_entry (creates_cq q first s) id) hs ds (λ z w. refl) h));
+      creates_cqs = λ q vector id first queue none new granted.
+          serve_ring (next_tail s.entries) 0 (change q (a.making_cq (half_from Completion first s)) hs) (posted (creates_cq q vector first s) id) (waiting (posted (creates_cq q vector first s) id))
+          (serve_host (a.making_cq (half_from Completion first s)) q hs (posted (creates_cq q vector first s) id) (waiting (posted (creates_cq q vector first s) id)) (λ x ex deleting. absurd (true≢false (sym deleting)))
+          (serve_posted (admin_entry (creates_cq q vector first s) id) hs ds (λ z w. refl) h));
       creates_sqs = λ q id first queue none new granted.
           serve_ring (next_tail s.entries) 0 (change q (a.making_sq (half_from Submission first s)) hs) (posted (creates_sq q first s) id) (waiting (posted (creates_sq q first s) id))
           (serve_host (a.making_sq (half_from Submission first s)) q hs (posted (creates_sq q first s) id) (waiting (posted (creates_sq q first s) id)) (λ x ex deleting. absurd (true≢false (sym deleting)))

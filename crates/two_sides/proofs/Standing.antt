@@ -472,8 +472,8 @@ stands_host s e reply ok c t h =
       hears = λ q cid st what e r adm told heard w quiet unmade. gone q cid st e r adm heard w;
       notes = λ q cid st what e r k told heard w. gone q cid st e r (DeleteSq k) heard w;
       frees = λ q cid st what e r k queue told heard w at alone good. gone q cid st e r (DeleteCq k) heard w;
-      makes_cq = λ q cid st what e r k n base told heard w good. gone q cid st e r (CreateCq k n base) heard w;
-      unmakes_cq = λ q cid st what e r k n base queue told heard w at bad. gone q cid st e r (CreateCq k n base) heard w;
+      makes_cq = λ q cid st what e r k n base vector told heard w good. gone q cid st e r (CreateCq k n base vector) heard w;
+      unmakes_cq = λ q cid st what e r k n base vector queue told heard w at bad. gone q cid st e r (CreateCq k n base vector) heard w;
       makes_sq = λ q cid st what e r k n base told heard w good. gone q cid st e r (CreateSq k n base) heard w;
       unmakes_sq = λ q cid st what e r k n base queue told heard w at bad. gone q cid st e r (CreateSq k n base) heard w;
       collects = λ q cid r f at held is. records_with s.host.records q cid a.collected s.controller (λ r. refl) (λ r. refl) (λ r. refl) h.1;
@@ -481,7 +481,7 @@ stands_host s e reply ok c t h =
       aborts = λ q cid id none new. stands_sent (Abort q cid) id s (unused s 0 id new) h.1;
       asks = λ q id queue none new live. stands_sent (DeleteSq q) id s (unused s 0 id new) h.1;
       drops = λ q id none new. stands_sent (DeleteCq q) id s (unused s 0 id new) h.1;
-      creates_cqs = λ q id first queue none new granted. stands_sent (creates_cq q first s) id (grants_cq q first s) (unused s 0 id new) (record { placed = h.1.placed });
+      creates_cqs = λ q vector id first queue none new granted. stands_sent (creates_cq q vector first s) id (grants_cq q first s) (unused s 0 id new) (record { placed = h.1.placed });
       creates_sqs = λ q id first queue none new granted. stands_sent (creates_sq q first s) id (grants_sq q first s) (unused s 0 id new) (record { placed = h.1.placed });
       retires = λ q queue none at deleted.
           records_map s.host.records (a.lost q) s.controller

@@ -252,15 +252,15 @@ tie_host_event s e reply ok c g h =
           tie_host s.entries u.host.queues u.controller.queues s.controller.jobs k a.gone
           (λ x d ex ed p. pair_moves s.entries x (a.gone x) d (λ o. absurd (true≢false (sym o))) (λ o. absurd (true≢false (sym o))) (λ o. is x ex) (λ o. absurd (true≢false (sym o))) p)
           (λ x ex some o. absurd (true≢false (sym o ∙ is x ex))) (tie_heard q e s none' h);
-      makes_cq = λ q cid st what e r k n base told heard w good none'.
+      makes_cq = λ q cid st what e r k n base vector told heard w good none'.
           let u = a.heard q e s in
-          let is : (x : HostQueue) → slice_get u.host.queues k ≡ Some x → x.state ≡ MakingCq = λ x ex. making_cq_as_heard s q cid st e r k n base g.holds heard w x ex in
+          let is : (x : HostQueue) → slice_get u.host.queues k ≡ Some x → x.state ≡ MakingCq = λ x ex. making_cq_as_heard s q cid st e r k n base vector g.holds heard w x ex in
           tie_host s.entries u.host.queues u.controller.queues s.controller.jobs k a.half_made
           (λ x d ex ed p. pair_moves s.entries x (a.half_made x) d (λ o. absurd (true≢false (sym o))) (λ o. p.comp (ap has_cq (is x ex))) (λ o. ap in_service (is x ex)) (λ o. p.fresh (ap is_making (is x ex))) p)
           (λ x ex some o. absurd (true≢false (sym o ∙ ap in_service (is x ex)))) (tie_heard q e s none' h);
-      unmakes_cq = λ q cid st what e r k n base queue told heard w at bad none'.
+      unmakes_cq = λ q cid st what e r k n base vector queue told heard w at bad none'.
           let u = a.heard q e s in
-          let is : (x : HostQueue) → slice_get u.host.queues k ≡ Some x → x.state ≡ MakingCq = λ x ex. making_cq_as_heard s q cid st e r k n base g.holds heard w x ex in
+          let is : (x : HostQueue) → slice_get u.host.queues k ≡ Some x → x.state ≡ MakingCq = λ x ex. making_cq_as_heard s q cid st e r k n base vector g.holds heard w x ex in
           tie_host s.entries u.host.queues u.controller.queues s.controller.jobs k a.gone
           (λ x d ex ed p. pair_moves s.entries x (a.gone x) d (λ o. absurd (true≢false (sym o))) (λ o. absurd (true≢false (sym o))) (λ o. ap in_service (is x ex)) (λ o. absurd (true≢false (sym o))) p)
           (λ x ex some o. absurd (true≢false (sym o ∙ ap in_service (is x ex)))) (tie_heard q e s none' h);
@@ -286,10 +286,10 @@ tie_host_event s e reply ok c g h =
           (λ x d ex ed p. pair_moves s.entries x (a.deleting x) d (λ o. p.sub (ap has_sq (is x ex))) (λ o. p.comp (ap has_cq (is x ex))) (λ o. absurd (true≢false o)) (λ o. absurd (true≢false (sym o))) p)
           (λ x ex some o. refl) (sent (DeleteSq q) id);
       drops = λ q id none new none'. sent (DeleteCq q) id;
-      creates_cqs = λ q id first queue none new granted none'.
+      creates_cqs = λ q vector id first queue none new granted none'.
           let f = a.making_cq (half_from Completion first s) in
           let is : (x : HostQueue) → slice_get s.host.queues q ≡ Some x → x.state ≡ Gone = λ x ex. let same : queue ≡ x = cc (granted.there, ex) in ap (λ (z : HostQueue). z.state) (sym same) ∙ granted.state in
-          elsewhere (creates_cq q first s) id q f (grants_cq q first s) refl refl refl refl granted.other
+          elsewhere (creates_cq q vector first s) id q f (grants_cq q first s) refl refl refl refl granted.other
           (tie_host s.entries s.host.queues s.controller.queues s.controller.jobs q f
           (λ x d ex ed p. pair_moves s.entries x (f x) d (λ o. absurd (true≢false (sym o))) (λ o. length-pages_from first (half_pages s.entries Completion)) (λ o. ap in_service (is x ex)) (λ o. refl) p)
           (λ x ex some o. absurd (true≢false (sym o ∙ ap in_service (is x ex)))) h);

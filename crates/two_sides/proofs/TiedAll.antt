@@ -77,8 +77,8 @@ queues_stay s e reply ok c =
       hears = λ q cid st what e r adm told heard w quiet unmade. heard_few q e;
       notes = λ q cid st what e r k told heard w. few k (λ queue. record queue { state = if is_success st then Deleting true else Live }) (a.heard q e s).host.queues (heard_few q e);
       frees = λ q cid st what e r k queue told heard w at alone good. few k a.gone (a.heard q e s).host.queues (heard_few q e);
-      makes_cq = λ q cid st what e r k size base told heard w good. few k a.half_made (a.heard q e s).host.queues (heard_few q e);
-      unmakes_cq = λ q cid st what e r k size base queue told heard w at bad. few k a.gone (a.heard q e s).host.queues (heard_few q e);
+      makes_cq = λ q cid st what e r k size base vector told heard w good. few k a.half_made (a.heard q e s).host.queues (heard_few q e);
+      unmakes_cq = λ q cid st what e r k size base vector queue told heard w at bad. few k a.gone (a.heard q e s).host.queues (heard_few q e);
       makes_sq = λ q cid st what e r k size base told heard w good. few k a.live (a.heard q e s).host.queues (heard_few q e);
       unmakes_sq = λ q cid st what e r k size base queue told heard w at bad. few k a.unmade_sq (a.heard q e s).host.queues (heard_few q e);
       collects = λ q cid r f at held is. refl;
@@ -86,7 +86,7 @@ queues_stay s e reply ok c =
       aborts = λ q cid id none new. few 0 (λ x. record x { ring = next_tail s.entries x.ring }) s.host.queues refl;
       asks = λ q id queue none new live. few q a.deleting (a.on_ring 0 (next_tail s.entries) s).host.queues (few 0 (λ x. record x { ring = next_tail s.entries x.ring }) s.host.queues refl);
       drops = λ q id none new. few 0 (λ x. record x { ring = next_tail s.entries x.ring }) s.host.queues refl;
-      creates_cqs = λ q id first queue none new granted. few 0 (λ x. record x { ring = next_tail s.entries x.ring }) (grants_cq q first s).host.queues (few q (a.making_cq (half_from Completion first s)) s.host.queues refl);
+      creates_cqs = λ q vector id first queue none new granted. few 0 (λ x. record x { ring = next_tail s.entries x.ring }) (grants_cq q first s).host.queues (few q (a.making_cq (half_from Completion first s)) s.host.queues refl);
       creates_sqs = λ q id first queue none new granted. few 0 (λ x. record x { ring = next_tail s.entries x.ring }) (grants_sq q first s).host.queues (few q (a.making_sq (half_from Submission first s)) s.host.queues refl);
       retires = λ q queue none at deleted. few q a.retired s.host.queues refl;
       forges = λ q slot bytes queue none at. refl;

@@ -660,12 +660,12 @@ tokens_host_event s e reply ok c t few long holds stands left h =
           moved q cid st e r (DeleteCq k) heard w (record { placed = left.placed }) k a.gone
           (λ x ex kk. let same : queue ≡ x = cc (at, ex) in let over : is_known_deleted x.state ≡ true = ap (λ (z : HostQueue). is_known_deleted z.state) (sym same) ∙ alone_known queue.state alone in
           (omega (arith, ap one over), omega (arith, ap one (both (k % 65536 == k) (is_success st) kk good)), omega arith));
-      makes_cq = λ q cid st what e r k n base told heard w good left.
-          moved q cid st e r (CreateCq k n base) heard w (record { placed = left.placed }) k a.half_made
-          (λ x ex kk. let over = ap is_known_deleted (making_cq_as_heard s q cid st e r k n base holds heard w x ex) in (omega (arith, ap one over), omega arith, omega arith));
-      unmakes_cq = λ q cid st what e r k n base queue told heard w at bad left.
-          moved q cid st e r (CreateCq k n base) heard w (record { placed = left.placed }) k a.gone
-          (λ x ex kk. let over = ap is_known_deleted (making_cq_as_heard s q cid st e r k n base holds heard w x ex) in
+      makes_cq = λ q cid st what e r k n base vector told heard w good left.
+          moved q cid st e r (CreateCq k n base vector) heard w (record { placed = left.placed }) k a.half_made
+          (λ x ex kk. let over = ap is_known_deleted (making_cq_as_heard s q cid st e r k n base vector holds heard w x ex) in (omega (arith, ap one over), omega arith, omega arith));
+      unmakes_cq = λ q cid st what e r k n base vector queue told heard w at bad left.
+          moved q cid st e r (CreateCq k n base vector) heard w (record { placed = left.placed }) k a.gone
+          (λ x ex kk. let over = ap is_known_deleted (making_cq_as_heard s q cid st e r k n base vector holds heard w x ex) in
           (omega (arith, ap one over), omega (arith, ap one (both (k % 65536 == k) (not (is_success st)) kk (ap not bad))), omega arith));
       makes_sq = λ q cid st what e r k n base told heard w good left.
           moved q cid st e r (CreateSq k n base) heard w (record { placed = left.placed }) k a.live
@@ -685,9 +685,9 @@ tokens_host_event s e reply ok c t few long holds stands left h =
           (turns (DeleteSq q) s1.host.queues q a.deleting y.0 y.1 (λ z far. (refl, refl, ap (λ (n : ℕ). n == z) kk.1 ∙ far)) (omega arith, omega arith, omega (arith, ap one kk.0, ap one is)))
           (tokens_alike rs hs s1.host.queues ds un js ans (alike_ring 0 (next_tail s.entries) hs) h);
       drops = λ q id none new left. sent (DeleteCq q) id (unused s 0 id new) (λ z. (refl, refl, refl));
-      creates_cqs = λ q id first queue none new granted left.
+      creates_cqs = λ q vector id first queue none new granted left.
           let f = a.making_cq (half_from Completion first s) in
-          let adm = creates_cq_moves q first s in
+          let adm = creates_cq_moves q vector first s in
           let kk = named q queue hs granted.there few in
           let was : is_gone queue.state ≡ true = ap is_gone granted.state in
           let over : is_known_deleted queue.state ≡ true = ap is_known_deleted granted.state in

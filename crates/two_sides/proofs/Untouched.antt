@@ -434,8 +434,8 @@ untouched_kept s e reply ok w g p some away =
       hears = λ q cid st what e r adm t heard w quiet unmade away. refl;
       notes = λ q cid st what e r k t heard w away. refl;
       frees = λ q cid st what e r k queue t heard w at retired good away. refl;
-      makes_cq = λ q cid st what e r k n base t heard w good away. refl;
-      unmakes_cq = λ q cid st what e r k n base queue t heard w at bad away. refl;
+      makes_cq = λ q cid st what e r k n base vector t heard w good away. refl;
+      unmakes_cq = λ q cid st what e r k n base vector queue t heard w at bad away. refl;
       makes_sq = λ q cid st what e r k n base t heard w good away. refl;
       unmakes_sq = λ q cid st what e r k n base queue t heard w at bad away. refl;
       collects = λ q cid r f at held is away. without_elsewhere (pages_of r) s.memory p (away q cid r refl at);
@@ -443,8 +443,8 @@ untouched_kept s e reply ok w g p some away =
       aborts = λ q cid id none new away. sent (Abort q cid) id s (posts_live s g 0 p (zero_lives s g) some);
       asks = λ q id queue none new live away. sent (DeleteSq q) id s (posts_live s g 0 p (zero_lives s g) some);
       drops = λ q id none new away. sent (DeleteCq q) id s (posts_live s g 0 p (zero_lives s g) some);
-      creates_cqs = λ q id first queue none new granted away.
-          sent (creates_cq q first s) id (grants_cq q first s) (posts_beside q (a.making_cq (half_from Completion first s)) granted.other)
+      creates_cqs = λ q vector id first queue none new granted away.
+          sent (creates_cq q vector first s) id (grants_cq q first s) (posts_beside q (a.making_cq (half_from Completion first s)) granted.other)
           ∙ granted_elsewhere (half_from Completion first s) (run_times s.host.free (half_pages s.entries Completion) first granted.run);
       creates_sqs = λ q id first queue none new granted away.
           sent (creates_sq q first s) id (grants_sq q first s) (posts_beside q (a.making_sq (half_from Submission first s)) granted.other)

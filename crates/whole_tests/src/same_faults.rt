@@ -9,7 +9,7 @@ use test_support::Seen;
 use texts::faults::{Grammar, find, form_text};
 
 /// A line of each form of `steps`.
-const STEPS: [&str; 10] = [
+const STEPS: [&str; 12] = [
     "reserve 1 read 18446744073709551615 4294967295 0+512 x512 4095+1",
     "reserve 0 compare 0 1",
     "reserve 1 read 0 1 0+512 nsid 4294967295 fua lr",
@@ -17,6 +17,8 @@ const STEPS: [&str; 10] = [
     "forge 1 3 00112233445566778899AABBCCDDEEFF",
     "build 1 0",
     "  delete_sq 1",
+    "create_cq 1",
+    "create_cq 1 vector 65535",
     "reset",
     "owners  ",
     "# a comment",
@@ -32,7 +34,7 @@ const JOBS: [&str; 5] = [
 ];
 
 /// Words that may stand where another is wanted.
-const WORDS: [&[u8]; 27] = [
+const WORDS: [&[u8]; 28] = [
     b"0",
     b"3",
     b"65535",
@@ -56,6 +58,7 @@ const WORDS: [&[u8]; 27] = [
     b"nsid",
     b"fua",
     b"lr",
+    b"vector",
     b"#",
     b"1\r",
     b"\xC3\xA9",

@@ -305,13 +305,13 @@ impl<A: Allocator + Copy> BenchTables<A> {
     }
 
     /// Sends the creation of a completion queue.
-    fn create_cq(&mut self, q: u16) -> ReplyIn<A>
+    fn create_cq(&mut self, q: u16, vector: Option<u16>) -> ReplyIn<A>
         requires { IsBench self.old.world.state self.old.values }
-        ensures does { Does (table_of self.old) (Step.CreateCq q) result (table_of self.new) }
-        ensures touches { StepTouches self.old.world.state.entries self.old.world.touches (Step.CreateCq q) result (table_of self.new) self.new.world.touches }
+        ensures does { Does (table_of self.old) (Step.CreateCq q vector) result (table_of self.new) }
+        ensures touches { StepTouches self.old.world.state.entries self.old.world.touches (Step.CreateCq q vector) result (table_of self.new) self.new.world.touches }
         ensures kept { IsBench self.new.world.state self.new.values }
     {
-        match self.world.create_cq(q) {
+        match self.world.create_cq(q, vector) {
             Ok(cid) => Reply::Sent { cid },
             Err(why) => refused(why),
         }
@@ -391,7 +391,7 @@ impl<A: Allocator + Copy> BenchTables<A> {
             Step::Abort { q, cid } => self.abort(q, cid),
             Step::DeleteSq { q } => self.delete_sq(q),
             Step::DeleteCq { q } => self.delete_cq(q),
-            Step::CreateCq { q } => self.create_cq(q),
+            Step::CreateCq { q, vector } => self.create_cq(q, vector),
             Step::CreateSq { q } => self.create_sq(q),
             Step::Retire { q } => self.retire(q),
             Step::Forge { q, slot, bytes } => self.forge(q, slot, bytes),

@@ -1,5 +1,6 @@
 //! The calls of a queue.
 
+ghost use Rattle.std.specs.Prelude.{None, Some};
 ghost use Rattle.nvmesgl_c.specs.HostKept.{kept_in};
 ghost use Rattle.nvmesgl_c.specs.HostCalls.{Says, SaysBell};
 ghost use Rattle.host_bench.specs.declared.call.Call.TheVariants as call;
@@ -55,7 +56,7 @@ pub extern "C" fn nvmehost_delete_cq(
     say(alloc, handle, Call::DeleteCq { q }, answer)
 }
 
-/// Sends the creation of a completion queue. The identifier on queue 0 is told.
+/// Sends the creation of a completion queue that is polled. The identifier on queue 0 is told.
 #[unsafe(no_mangle)]
 pub extern "C" fn nvmehost_create_cq(
     alloc: Global,
@@ -63,9 +64,24 @@ pub extern "C" fn nvmehost_create_cq(
     q: u16,
     answer: &mut Answer,
 ) -> u32
-    ensures { Says (kept_in handle.old) (call.CreateCq q) result answer.new (kept_in handle.new) }
+    ensures { Says (kept_in handle.old) (call.CreateCq q None) result answer.new (kept_in handle.new) }
 {
-    say(alloc, handle, Call::CreateCq { q }, answer)
+    say(alloc, handle, Call::CreateCq { q, vector: None }, answer)
+}
+
+/// Sends the creation of a completion queue with interrupts on a vector. The identifier on queue 0 is told.
+#[unsafe(no_mangle)]
+pub extern "C" fn nvmehost_create_cq_vector(
+    alloc: Global,
+    handle: &mut Handle,
+    q: u16,
+    vector: u16,
+    answer: &mut Answer,
+) -> u32
+    ensures { Says (kept_in handle.old) (call.CreateCq q (Some vector)) result answer.new (kept_in handle.new) }
+{
+    let vector = Some(vector);
+    say(alloc, handle, Call::CreateCq { q, vector }, answer)
 }
 
 /// Sends the creation of a submission queue. The identifier on queue 0 is told.

@@ -62,7 +62,7 @@ pub extern "C" fn nvmesgl_delete_cq(
     say(alloc, handle, Step::DeleteCq { q }, answer)
 }
 
-/// Sends the creation of a completion queue. The identifier on queue 0 is told.
+/// Sends the creation of a completion queue that is polled. The identifier on queue 0 is told.
 #[unsafe(no_mangle)]
 pub extern "C" fn nvmesgl_create_cq(
     alloc: Global,
@@ -70,9 +70,9 @@ pub extern "C" fn nvmesgl_create_cq(
     q: u16,
     answer: &mut Answer,
 ) -> u32
-    ensures { Says (kept_in handle.old) (step.CreateCq q) result answer.new (kept_in handle.new) }
+    ensures { Says (kept_in handle.old) (step.CreateCq q None) result answer.new (kept_in handle.new) }
 {
-    say(alloc, handle, Step::CreateCq { q }, answer)
+    say(alloc, handle, Step::CreateCq { q, vector: None }, answer)
 }
 
 /// Sends the creation of a submission queue. The identifier on queue 0 is told.

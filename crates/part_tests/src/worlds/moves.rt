@@ -93,7 +93,10 @@ fn of_queues(numbers: &mut Numbers) -> Step {
         0..=7 => Step::Abort { q, cid },
         8 => Step::DeleteSq { q },
         9..=18 => Step::DeleteCq { q },
-        19..=29 => Step::CreateCq { q },
+        19..=29 => Step::CreateCq {
+            q,
+            vector: Some(cid),
+        },
         30..=47 => Step::CreateSq { q },
         _ => Step::Retire { q },
     }

@@ -73,7 +73,7 @@ impl Noted {
             Step::Collect { q, cid } => Noted::Stage(q, cid, Stage::Collected),
             Step::Reap { q } => Noted::Reaped(q),
             Step::Abort { .. } | Step::DeleteSq { .. } | Step::DeleteCq { .. } => Noted::Sent(None),
-            Step::CreateCq { q } | Step::CreateSq { q } => Noted::Sent(Some(q)),
+            Step::CreateCq { q, .. } | Step::CreateSq { q } => Noted::Sent(Some(q)),
             Step::Retire { q } => Noted::Retired(q),
             Step::Forge { .. } => Noted::Forged,
             Step::Reset => Noted::Reset,

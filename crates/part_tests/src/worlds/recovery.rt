@@ -84,7 +84,7 @@ fn recover(rt: &impl Abort, desk: &mut Desk, numbers: &mut Numbers) {
     give_all_back(desk, before);
     desk.see_counts(at_rest(CONFIG.pages, 2));
     for q in 1..3 {
-        make(desk, Step::CreateCq { q });
+        make(desk, Step::CreateCq { q, vector: None });
         make(desk, Step::CreateSq { q });
     }
     for q in 1..3 {

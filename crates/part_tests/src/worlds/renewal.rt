@@ -122,7 +122,7 @@ fn admin(desk: &mut Desk, step: Step, q: u16) -> Option<Told> {
 /// The step that makes a half of a queue.
 fn creation(q: u16, half: Half) -> Step {
     match half {
-        Half::Completion => Step::CreateCq { q },
+        Half::Completion => Step::CreateCq { q, vector: None },
         Half::Submission => Step::CreateSq { q },
     }
 }

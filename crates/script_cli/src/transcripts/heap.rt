@@ -49,7 +49,10 @@ pub fn step_in<A: Allocator + Copy>(heap: A, step: &Step) -> Result<StepIn<A>, A
         Step::Reap { q } => Step::Reap { q: *q },
         Step::DeleteSq { q } => Step::DeleteSq { q: *q },
         Step::DeleteCq { q } => Step::DeleteCq { q: *q },
-        Step::CreateCq { q } => Step::CreateCq { q: *q },
+        Step::CreateCq { q, vector } => Step::CreateCq {
+            q: *q,
+            vector: *vector,
+        },
         Step::CreateSq { q } => Step::CreateSq { q: *q },
         Step::Retire { q } => Step::Retire { q: *q },
         Step::Reset => Step::Reset,

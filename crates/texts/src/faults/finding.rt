@@ -7,7 +7,7 @@ use crate::faults::forms::{Grammar, Slot, has_pieces, slots_of, slots_of_job};
 use crate::faults::words::{Place, word_from};
 use io_commands::Kind;
 use script_cli::{
-    FUA, LR, LineError, LineFault, NSID, Verb, Words, begins_comment, begins_option, piece,
+    FUA, LR, LineError, LineFault, NSID, VECTOR, Verb, Words, begins_comment, begins_option, piece,
     words_of,
 };
 use std::alloc::{AllocError, Global};
@@ -93,7 +93,9 @@ fn was_read<T: Drop>(read: Result<T, LineError>) -> Result<bool, AllocError> {
 /// Whether memory was refused, or else whether a word is what is wanted, as the parser reads it.
 fn is_good(alloc: Global, slot: Slot, words: &mut Words<'_>) -> Result<bool, AllocError> {
     Ok(match slot {
-        Slot::Queue | Slot::Identifier | Slot::CompletionSlot => words.number16().is_ok(),
+        Slot::Queue | Slot::Identifier | Slot::CompletionSlot | Slot::Vector => {
+            words.number16().is_ok()
+        }
         Slot::Kind => words.kind().is_ok(),
         Slot::FirstBlock => words.number64().is_ok(),
         Slot::Blocks => words.number32().is_ok(),
@@ -115,6 +117,7 @@ fn fault_of(slot: Slot) -> LineFault {
         | Slot::FirstBlock
         | Slot::Blocks
         | Slot::Namespace
+        | Slot::Vector
         | Slot::Submitter(_) => LineFault::BadNumber,
     }
 }
@@ -203,14 +206,20 @@ fn named_after(line: &[u8], at: usize, name: &str) -> Option<usize>
     Some(place.end)
 }
 
-/// Looks at the namespace that may follow a place, and answers where it ends.
-fn namespace_after(alloc: Global, line: &[u8], at: usize) -> Result<usize, FindError>
+/// Looks at the word that may follow a place behind its name, and answers where it ends.
+fn option_after(
+    alloc: Global,
+    line: &[u8],
+    at: usize,
+    name: &str,
+    slot: Slot,
+) -> Result<usize, FindError>
     requires { at ≤ length line.now }
     ensures next { IfOk result (λ next. next ≤ length line.now) }
     ensures error { IfErr result (IsErrorIn (length line.now)) }
 {
-    match named_after(line, at, NSID) {
-        Some(next) => word_after(alloc, line, next, Slot::Namespace),
+    match named_after(line, at, name) {
+        Some(next) => word_after(alloc, line, next, slot),
         None => Ok(at),
     }
 }
@@ -243,7 +252,7 @@ fn request_after(alloc: Global, line: &[u8], at: usize, wanted: Wanted) -> Resul
     ensures { IfErr result (IsErrorIn (length line.now)) }
 {
     let at = pieces_after(line, at)?;
-    let at = namespace_after(alloc, line, at)?;
+    let at = option_after(alloc, line, at, NSID, Slot::Namespace)?;
     let at = flag_after(line, at, FUA);
     let at = flag_after(line, at, LR);
     Ok(end_after(line, at, wanted)?)
@@ -257,10 +266,13 @@ fn step_after(alloc: Global, line: &[u8], at: usize, verb: Verb) -> Result<(), F
     let at = words_after(alloc, line, at, slots_of(verb))?;
     let wanted = Wanted::Nothing(verb);
     if has_pieces(verb) {
-        request_after(alloc, line, at, wanted)
-    } else {
-        Ok(end_after(line, at, wanted)?)
+        return request_after(alloc, line, at, wanted);
     }
+    if verb != Verb::CreateCq {
+        return Ok(end_after(line, at, wanted)?);
+    }
+    let at = option_after(alloc, line, at, VECTOR, Slot::Vector)?;
+    Ok(end_after(line, at, wanted)?)
 }
 
 /// Whether the third word that follows a place is `read`.

@@ -32,6 +32,8 @@ pub enum Slot {
     Blocks,
     /// A namespace.
     Namespace,
+    /// A vector.
+    Vector,
     /// Bytes.
     Bytes,
     /// The 16 bytes of a completion entry.
@@ -61,7 +63,7 @@ pub(crate) fn slots_of(verb: Verb) -> &'static [Slot]
         Verb::Fill => &FILL,
         Verb::Forge => &FORGE,
         Verb::Reset | Verb::Owners => &NOTHING,
-        Verb::OnQueue(_) => &QUEUE,
+        Verb::CreateCq | Verb::OnQueue(_) => &QUEUE,
         Verb::OnCommand(_) => &COMMAND,
     }
 }
@@ -96,7 +98,7 @@ impl Slot {
             Slot::Kind => "KIND",
             Slot::FirstBlock => "SLBA",
             Slot::Blocks => "BLOCKS",
-            Slot::Namespace => "N",
+            Slot::Namespace | Slot::Vector => "N",
             Slot::Bytes | Slot::EntryBytes => "HEX",
             Slot::Submitter(_) => "S",
         }
@@ -112,6 +114,7 @@ impl Slot {
             Slot::FirstBlock => "the first block, 0 to 18446744073709551615",
             Slot::Blocks => "how many blocks, 0 to 4294967295",
             Slot::Namespace => "a namespace, 1 to 4294967295",
+            Slot::Vector => "a vector, 0 to 65535",
             Slot::Bytes => "bytes, of two hexadecimal digits each",
             Slot::EntryBytes => "16 bytes, of two hexadecimal digits each",
             Slot::Submitter(submitters) => {

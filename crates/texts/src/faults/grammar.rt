@@ -35,6 +35,9 @@ A script of `nvmesgl threads` has one job on each line:
 Behind the pieces of `reserve` and `job` may stand, in this order: `nsid N`, the namespace, where it
 is not 1; `fua`, for Force Unit Access; and `lr`, for Limited Retry.
 
+Behind the queue of `create_cq` may stand `vector N`, the vector of its interrupts; else the queue
+is polled.
+
 Numbers are decimal. Words are separated by blanks. A line whose first word begins with `#` is a
 comment.
 
@@ -58,7 +61,6 @@ fn about_queue(verb: QueueVerb) -> &'static str
         QueueVerb::Retire => "gives up a queue whose submission half is deleted",
         QueueVerb::DeleteSq => "asks to drop a queue's submission half, on queue 0",
         QueueVerb::DeleteCq => "asks to drop a queue's completion half, on queue 0",
-        QueueVerb::CreateCq => "asks to make a completion half again, on queue 0",
         QueueVerb::CreateSq => "asks to make a submission half again, on queue 0",
     }
 }
@@ -87,6 +89,7 @@ fn about(verb: Verb) -> &'static str
     match verb {
         Verb::Reserve => "reserves a command and its pages",
         Verb::Fill => "writes the bytes of a Write or a Compare",
+        Verb::CreateCq => "asks to make a completion half again, on queue 0",
         Verb::Forge => "overwrites a completion slot",
         Verb::Reset => "resets the controller: queue 0 alone is left",
         Verb::Owners => "prints who owns which page",

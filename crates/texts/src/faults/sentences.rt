@@ -17,6 +17,9 @@ const JOBS: [&str; 1] = ["job"];
 const BEHIND_PIECES: &str =
     "this word is one too many: behind the pieces stand 'nsid N', 'fua' and 'lr', each once and in this order.";
 
+/// What is wrong with a word that follows those of `create_cq`.
+const BEHIND_QUEUE: &str = "this word is one too many: behind Q stands 'vector N', once.";
+
 /// The most digits of a number.
 const MAX_DIGITS: usize = 20;
 
@@ -145,6 +148,9 @@ fn put_extra(out: &mut String, alloc: Global, word: &[u8], verb: Verb) -> Result
     }
     if verb == Verb::Reserve {
         return out.push_str(BEHIND_PIECES);
+    }
+    if verb == Verb::CreateCq {
+        return out.push_str(BEHIND_QUEUE);
     }
     let form = form_text(alloc, verb)?;
     write!(out, "this word is one too many: the form is '{form}'.")

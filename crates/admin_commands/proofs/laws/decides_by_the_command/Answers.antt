@@ -7,7 +7,7 @@ use Rattle.admin_commands.proofs.laws.decides_by_the_command.Goals as goal
 
 -- whether what an entry asks for is the creation of a queue
 abbrev creates : Result AdminKind Status → Bool
-creates (Ok (CreateCq q n base)) = true
+creates (Ok (CreateCq q n base vector)) = true
 creates (Ok (CreateSq q n base)) = true
 creates v = false
 

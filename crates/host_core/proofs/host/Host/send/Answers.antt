@@ -9,7 +9,7 @@ pub returns-in-Err-clause-step : goal.returns-in-Err-clause-step
 returns-in-Err-clause-step g c =
     let t : Tables = tables_of c.self.inside.parts c.args.store.now.pages in
     let w : IsWhole t = whole_at (tables_of c.self.inside.parts []) c.args.self.now c.args.store.now.pages c.self.view_is c.self.invariant c.requires.over in
-    stays_at t c.args.self.now (sending c.args.kind) (events.Refused c.in-Err.why []) c.self.view_is (send-refused t c.args.kind c.in-Err.why (c.in-Err.ensures.refused c.args.store.now.pages w))
+    stays_at t c.args.self.now (sending c.args.kind) (events.Refused c.in-Err.why []) c.self.view_is (send-refused t c.args.kind c.in-Err.why c.requires.plain (c.in-Err.ensures.refused c.args.store.now.pages w))
 
 pub commit_send-requires-clause-whole : goal.commit_send-requires-clause-whole
 commit_send-requires-clause-whole g c =

@@ -17,7 +17,7 @@ returns-then-has_cq_alone g c = λ pages.
 
 pub returns-else-is_success-2 : goal.returns-else-is_success-2
 returns-else-is_success-2 g c = λ pages.
-    unmade-cq (tables_of c.args.self.now pages) (tables_of c.give_back_completion-else-is_success-2.new.self pages) c.args.kind c.in-CreateCq.q c.in-CreateCq.entries c.in-CreateCq.base c.args.status c.in-CreateCq.is
+    unmade-cq (tables_of c.args.self.now pages) (tables_of c.give_back_completion-else-is_success-2.new.self pages) c.args.kind c.in-CreateCq.q c.in-CreateCq.entries c.in-CreateCq.base c.in-CreateCq.vector c.args.status c.in-CreateCq.is
     (sym c.is_success-in-CreateCq.ensures ∙ c.if-is_success-2.false) (c.give_back_completion-else-is_success-2.ensures pages)
 
 pub returns-else-is_success-3 : goal.returns-else-is_success-3

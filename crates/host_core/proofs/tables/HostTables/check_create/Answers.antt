@@ -3,18 +3,18 @@ use Rattle.host_core.{proofs.Creations.{create-full, create-no_identifier, creat
 use Rattle.host_core.proofs.tables.HostTables.check_create.Goals as goal
 
 pub returns-in_default-clause-refused : goal.returns-in_default-clause-refused
-returns-in_default-clause-refused g c = λ pages w.
-    create-no_identifier (tables_of c.args.self.now pages) c.args.half c.args.q c.deref.result.now w (c.in-Ok.ensures.free pages) c.deref.ensures.value c.in_default.ensures
+returns-in_default-clause-refused g c = λ pages w vector.
+    create-no_identifier (tables_of c.args.self.now pages) c.args.half c.args.q vector c.deref.result.now w (c.in-Ok.ensures.free pages) c.deref.ensures.value c.in_default.ensures
 
 pub returns-in_default-lowest_run-clause-refused : goal.returns-in_default-lowest_run-clause-refused
-returns-in_default-lowest_run-clause-refused g c = λ pages w.
+returns-in_default-lowest_run-clause-refused g c = λ pages w vector.
     let t : Tables = tables_of c.args.self.now pages in
-    create-no_run t c.args.half c.args.q c.half_pages-need.result c.deref.result.now c.in-Some.cid w (c.in-Ok.ensures.free pages) c.deref.ensures.value c.in-Some.ensures c.half_pages-need.ensures (sym c.in_default-lowest_run.ensures.lowest)
+    create-no_run t c.args.half c.args.q vector c.half_pages-need.result c.deref.result.now c.in-Some.cid w (c.in-Ok.ensures.free pages) c.deref.ensures.value c.in-Some.ensures c.half_pages-need.ensures (sym c.in_default-lowest_run.ensures.lowest)
 
 pub returns-then-is_queue_full-clause-refused : goal.returns-then-is_queue_full-clause-refused
-returns-then-is_queue_full-clause-refused g c = λ pages w.
+returns-then-is_queue_full-clause-refused g c = λ pages w vector.
     let t : Tables = tables_of c.args.self.now pages in
-    create-full t c.args.half c.args.q c.half_pages-need.result c.deref.result.now c.in-Some.cid c.in-Some-lowest_run.first w (c.in-Ok.ensures.free pages) c.deref.ensures.value c.in-Some.ensures c.half_pages-need.ensures (sym c.in-Some-lowest_run.ensures.lowest) (sym (c.if-is_queue_full.ensures pages))
+    create-full t c.args.half c.args.q vector c.half_pages-need.result c.deref.result.now c.in-Some.cid c.in-Some-lowest_run.first w (c.in-Ok.ensures.free pages) c.deref.ensures.value c.in-Some.ensures c.half_pages-need.ensures (sym c.in-Some-lowest_run.ensures.lowest) (sym (c.if-is_queue_full.ensures pages))
 
 pub returns-clause-ready : goal.returns-clause-ready
 returns-clause-ready g c = λ pages w.

@@ -3,8 +3,8 @@ use Rattle.host_core.{proofs.Making.{create_cq-busy, create_cq-free}, specs.{Com
 use Rattle.host_core.proofs.tables.HostTables.check_create_cq.Goals as goal
 
 pub returns-then-has_commands-clause-refused : goal.returns-then-has_commands-clause-refused
-returns-then-has_commands-clause-refused g c = λ pages.
-    create_cq-busy (tables_of c.args.self.now pages) c.args.q (ne_eqb c.args.q 0 c.if-q-eq0.false)
+returns-then-has_commands-clause-refused g c = λ pages vector.
+    create_cq-busy (tables_of c.args.self.now pages) c.args.q vector (ne_eqb c.args.q 0 c.if-q-eq0.false)
     (sym (c.host_state.ensures ∙ ap (λ (qs : List Queue). state_at qs c.args.q) c.deref.ensures.value) ∙ (c.in-Some-Gone.is ∙ ap Some c.in-Some-Gone.field-0-is))
     (sym c.has_commands.ensures ∙ c.if-has_commands.true)
 

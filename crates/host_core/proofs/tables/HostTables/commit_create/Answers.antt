@@ -45,10 +45,10 @@ pub returns-clause-creates : goal.returns-clause-creates
 returns-clause-creates g c =
     let t : Tables = tables_of c.args.self.now c.args.store.now.pages in
     let u : Tables = tables_of c.grant_half.new.self c.grant_half.new.store.pages in
-    let kind : c.command-kind.result ≡ creation c.args.half c.args.q t.entries c.args.creation.first =
-    c.command-kind.ensures ∙ ap (λ (x : Tables). creation c.args.half c.args.q x.entries c.args.creation.first) c.grant_half.ensures.granted in
-    creates-apart t u (tables_of c.note_sent.new.self c.grant_half.new.store.pages) (tables_of c.post.new.self c.post.new.store.pages) c.args.half c.args.q c.args.creation.cid c.args.creation.first c.command-kind.result c.entry.result
-    (bare-of t c.args.half c.args.q c.requires.whole c.requires.ready.none).other kind c.grant_half.ensures.granted (c.note_sent.ensures c.grant_half.new.store.pages) c.entry.ensures.entry c.post.ensures.posts
+    let kind : c.command-kind.result ≡ creation c.args.half c.args.q t.entries c.args.creation.first c.args.vector =
+    c.command-kind.ensures ∙ ap (λ (x : Tables). creation c.args.half c.args.q x.entries c.args.creation.first c.args.vector) c.grant_half.ensures.granted in
+    creates-apart t u (tables_of c.note_sent.new.self c.grant_half.new.store.pages) (tables_of c.post.new.self c.post.new.store.pages) c.args.half c.args.q c.args.vector c.args.creation.cid c.args.creation.first c.command-kind.result c.entry.result
+    (bare-of t c.args.half c.args.q c.args.vector c.requires.whole (c.requires.ready.none c.args.vector)).other kind c.grant_half.ensures.granted (c.note_sent.ensures c.grant_half.new.store.pages) c.entry.ensures.entry c.post.ensures.posts
 
 pub returns-clause-touches : goal.returns-clause-touches
 returns-clause-touches g c =
