@@ -29,13 +29,13 @@ A script of `nvmesgl threads` has one job on each line:
   SLBA    the first block
   BLOCKS  how many blocks
   PIECE   OFFSET+LEN, bytes of a page of its own, or xLEN, bytes that are left out
-  HEX     bytes, two hexadecimal digits each; zeros stand behind those of a command
+  HEX     bytes, two hexadecimal digits each; those of a command are followed by zeros
   SLOT    a slot of a completion queue
 
-Behind the pieces of `reserve` and `job` may stand, in this order: `nsid N`, the namespace, where it
+After the pieces of `reserve` and `job` may come, in this order: `nsid N`, the namespace, where it
 is not 1; `fua`, for Force Unit Access; and `lr`, for Limited Retry.
 
-Behind the queue of `create_cq` may stand `vector N`, the vector of its interrupts; else the queue
+After the queue of `create_cq` may come `vector N`, the vector of its interrupts; else the queue
 is polled.
 
 Numbers are decimal. Words are separated by blanks. A line whose first word begins with `#` is a

@@ -15,10 +15,10 @@ const JOBS: [&str; 1] = ["job"];
 
 /// What is wrong with a word that follows those of a request.
 const BEHIND_PIECES: &str =
-    "this word is one too many: behind the pieces stand 'nsid N', 'fua' and 'lr', each once and in this order.";
+    "this word is one too many: after the pieces may come 'nsid N', 'fua' and 'lr', each once and in this order.";
 
 /// What is wrong with a word that follows those of `create_cq`.
-const BEHIND_QUEUE: &str = "this word is one too many: behind Q stands 'vector N', once.";
+const BEHIND_QUEUE: &str = "this word is one too many: after Q may come 'vector N', once.";
 
 /// The most digits of a number.
 const MAX_DIGITS: usize = 20;
@@ -141,7 +141,7 @@ fn put_missing(out: &mut String, slot: Slot) -> Result<(), AllocError> {
 /// Puts that a word is one too many.
 fn put_extra(out: &mut String, alloc: Global, word: &[u8], verb: Verb) -> Result<(), AllocError> {
     if word.first() == Some(&b'#') {
-        return out.push_str("a comment has a line of its own: '#' begins none behind a step.");
+        return out.push_str("a comment has a line of its own: '#' begins none after a step.");
     }
     if verb == Verb::Fill {
         return out.push_str("this word is one too many: HEX is one word, without blanks.");

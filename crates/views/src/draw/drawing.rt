@@ -127,7 +127,7 @@ impl Drawing<'_> {
 fn put_end<W: Write>(alloc: Global, left_out: usize, writer: &mut W) -> Result<(), RunFault> {
     if left_out > 0 {
         let told = format!(in alloc;
-            "<p class=\"key\">{left_out} lines behind these are not drawn</p>\n"
+            "<p class=\"key\">{left_out} lines after these are not drawn</p>\n"
         );
         let Ok(told) = told else {
             return Err(RunFault::Memory);

@@ -188,7 +188,7 @@ impl fmt::Display for Wrong {
                     "a dump goes on where the line before ended: the offset {wanted:X} is wanted here."
                 )
             }
-            Wrong::NoEnd => f.write_str("behind a line * an offset is wanted."),
+            Wrong::NoEnd => f.write_str("after a line * an offset is wanted."),
             Wrong::Extra => f.write_str("this word is one too many."),
             Wrong::Late => f.write_str("a size stands once, before the lines that it is for."),
             Wrong::IsOut => f.write_str("this page is out, and has no bytes."),

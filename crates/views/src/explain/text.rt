@@ -190,7 +190,7 @@ pub(crate) fn put_rest(out: &mut String, explanation: &Explanation) -> Result<()
             let need = explanation.need;
             write!(
                 out,
-                "the list is longer than the {need} bytes of the command: what is behind them is left alone\n"
+                "the list is longer than the {need} bytes of the command: what comes after them is left alone\n"
             )
         }
         _ => Ok(()),
