@@ -197,6 +197,11 @@ create-refused t half q vector why fits h = host_step t t (creating half q vecto
 pub first-within : (t : Tables) (half : Half) (first : ℕ) → IsWhole t → run_for (state_of t) half ≡ Some first → first < 65536
 first-within t half first w run = omega (arith, run-within t half first (half_pages t.entries half) w refl run, some-pages t.entries half w.host.limits.least_entries)
 
+pub creatable-there : (t : Tables) (half : Half) (q cid first : ℕ) → IsWhole t → CanCreate t half q cid first → q < length t.queues
+creatable-there t half q cid first w can =
+    let bare = bare-of t half q None w (can.none None) in
+    slice_get_within t.queues q bare.queue bare.at
+
 pub granted-there : (t u : Tables) (half : Half) (q cid first : ℕ) → IsWhole t → CanCreate t half q cid first → u ≡ granted half q first t → 0 < length u.queues
 granted-there t u half q cid first w can same =
     let slot = granted-slot t half q cid first (bare-of t half q None w (can.none None)).other can.slot in
@@ -232,7 +237,7 @@ granted-can-post t u v half q cid first kind entry w can same is posts =
 
 pub creates-apart : (t u v new : Tables) (half : Half) (q : ℕ) (vector : Option ℕ) (cid first : ℕ) (kind : AdminKind) (entry : SubEntry) → (q == 0) ≡ false → kind ≡ creation half q t.entries first vector → u ≡ granted half q first t
     → v ≡ noted kind cid u → entry ≡ admin_entry kind cid → Posts v 0 entry new → Creates t half q vector cid first new
-creates-apart t u v new half q cid first kind entry other is same noted-is posts-is posts = λ x at.
+creates-apart t u v new half q vector cid first kind entry other is same noted-is posts-is posts = λ x at.
     let g : Tables = granted half q first t in
     let stands : slice_get g.queues 0 ≡ Some x = kept-at q (making half first) t.queues other ∙ at in
     let there = subst (λ (y : Tables). Posts y 0 entry new) (noted-is ∙ ap (noted kind cid) same) posts (with_claim cid x) (get_changed 0 (with_claim cid) g.queues x stands) in

@@ -46,7 +46,7 @@ commit_collect-requires-clause-tells g c = λ entry at.
     let w : IsWhole t = whole_at (tables_of c.self.inside.parts []) c.args.self.now c.args.store.now.pages c.self.view_is c.self.invariant c.requires in
     let here = found-at t c.q.result c.cid.result c.apart-q.result.0 c.apart-q.result.1 entry (c.apart-q.ensures.queue ∙ sym c.q.ensures) (c.apart-q.ensures.identifier ∙ sym c.cid.ensures) at in
     let told = c.in-Ok.ensures.tells c.args.store.now.pages w entry here in
-    (told.0 ∙ ap Io (sym c.in-Ok-room_for.ensures.same.0), told.1 ∙ ap Some (sym c.in-Ok-room_for.ensures.same.1))
+    (told.0 ∙ ap Io (sym c.in-Ok-room_for.ensures.same.0), told.1 ∙ ap Some (sym c.in-Ok-room_for.ensures.same.1), told.2 ∙ sym c.in-Ok-room_for.ensures.same.2)
 
 pub commit_collect-requires-clause-space : goal.commit_collect-requires-clause-space
 commit_collect-requires-clause-space g c = λ entry at.

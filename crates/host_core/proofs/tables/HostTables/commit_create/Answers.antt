@@ -1,11 +1,15 @@
 use Rattle.std.proofs.Common.{ap, ◌≡◌, ◌∙◌}
-use Rattle.host_core.proofs.Creations.{bare-of, creates-apart, first-within, granted-can-post, granted-new, granted-next, granted-noted-there, granted-settled, granted-there}
+use Rattle.host_core.proofs.Creations.{bare-of, creatable-there, creates-apart, first-within, granted-can-post, granted-new, granted-next, granted-noted-there, granted-settled, granted-there}
 use Rattle.host_core.{proofs.{Identifiers.{new-empty, place-of}, Told.touches_then}, specs.{Parts.tables_of, Sending.creation, Tables.Tables}}
 use Rattle.queue_pair.specs.Memory.{half_pages}
 use Rattle.host_core.proofs.tables.HostTables.commit_create.Goals as goal
 
 pub command-kind-requires : goal.command-kind-requires
 command-kind-requires g c = first-within (tables_of c.args.self.now c.args.store.now.pages) c.args.half c.args.creation.first c.requires.whole c.requires.ready.run
+
+pub grant_half-requires-clause-there : goal.grant_half-requires-clause-there
+grant_half-requires-clause-there g c =
+    creatable-there (tables_of c.args.self.now c.args.store.now.pages) c.args.half c.args.q c.args.creation.cid c.args.creation.first c.requires.whole c.requires.ready
 
 pub note_sent-requires-clause-there : goal.note_sent-requires-clause-there
 note_sent-requires-clause-there g c =
