@@ -4,14 +4,7 @@ ghost use Rattle.std.specs.Sync.Mutex.{mutex_guard_value};
 
 use crate::changes::{Change, Changes, Condvars};
 use crate::machine::Machine;
-use std::hint::spin_loop;
 use std::sync::{Mutex, MutexGuard, Wait};
-
-/// How often a thread looks whether the lock is free before it sleeps. A hold takes about a microsecond, to sleep and to be woken several.
-const LOOKS: u32 = 100;
-
-/// How many turns it makes after each look, so that the looks do not keep the processor of who has the lock from its memory.
-const TURNS: u32 = 16;
 
 /// What stands under the lock.
 #[derive(Drop)]
@@ -46,25 +39,12 @@ impl<M: Machine + Drop> Shared<M> {
         }
     }
 
-    /// Takes the lock: at once, after some looks, or after a sleep.
-    fn taken<R: Wait>(&self, rt: &R) -> MutexGuard<'_, Locked<M>> {
-        for _ in 0..LOOKS {
-            if let Some(locked) = self.locked.try_lock() {
-                return locked;
-            }
-            for _ in 0..TURNS {
-                spin_loop();
-            }
-        }
-        self.locked.lock(rt)
-    }
-
     /// Takes the lock, for several steps in one hold, or for a step whose changes are known behind it. Who drops what this hands out, in the place of
     /// [`Shared::leave`], wakes nobody.
     pub fn lock<R: Wait>(&self, rt: &R) -> MutexGuard<'_, Locked<M>>
         ensures { M.is (mutex_guard_value result).machine }
     {
-        let locked = self.taken(rt);
+        let locked = self.locked.lock(rt);
         prove!({
             locked.machine.confirm();
             true
