@@ -10,8 +10,8 @@
  * crates/nvmesgl_c: a call that is not done changes nothing but the answer.
  *
  * Of C nothing more is asked than nvmesgl.h asks (1 to 5 there): a handle is all zero bytes before its opening (NVMEHOST_CLOSED), it is never copied, and one
- * call at a time is made on it; and of a pool in memory of the caller's what rules 6 to 8 of docs/C.md say. Codes, kinds, pieces, answers and owners are those
- * of nvmesgl.h.
+ * call at a time is made on it; and of a pool in memory of the caller's what rules 6 to 8 of docs/C.md say. Codes, kinds, pieces, requests, answers and
+ * owners are those of nvmesgl.h.
  */
 #ifndef NVMEHOST_H
 #define NVMEHOST_H
@@ -169,10 +169,10 @@ static inline void nvmehost_write_doorbell(volatile void *registers, unsigned st
 /* A command, named by its queue and identifier ---------------------------------------------------------------------- */
 
 /* Below, "Refused" names the codes of a handle that is open, in the order in which they are looked for. But where memory is refused for the copy
- * of pieces (nvmehost_reserve, after BAD_PIECE), MEMORY comes before what would be looked for next. */
+ * of pieces (where a command is reserved, after BAD_PIECE), MEMORY comes before what would be looked for next. */
 
-/* Reserves a command of blocks of 512 bytes from slba on: the lowest free identifier (answer.cid) and pages (data_pages, chain_pages), as a draft. The pages are out of the
- * pool until the draft is submitted or cancelled.
+/* Reserves a command of namespace 1, with no flag, of blocks of 512 bytes from slba on: the lowest free identifier (answer.cid) and pages (data_pages, chain_pages), as a draft.
+ * The pages are out of the pool until the draft is submitted or cancelled.
  * Refused: NO_KIND, BAD_PIECE, NO_QUEUE, DELETING, a fault of the request (TOO_MANY_PIECES to LENGTH_MISMATCH), NO_IDENTIFIER, NO_PAGES, MEMORY. */
 uint32_t nvmehost_reserve(nvmehost *, uint16_t q, uint32_t kind, uint64_t slba, uint32_t blocks, const nvmesgl_piece *pieces, size_t piece_count,
                           nvmesgl_answer *) NVMESGL_CALL(1, 8);
@@ -180,6 +180,8 @@ uint32_t nvmehost_reserve(nvmehost *, uint16_t q, uint32_t kind, uint64_t slba, 
  * reset ended it. One that nvmehost_reserve reserves has the tag 0, whatever its identifier had before. Refused: as nvmehost_reserve, and MEMORY for a tag that is not 0. */
 uint32_t nvmehost_reserve_tagged(nvmehost *, uint16_t q, uint32_t kind, uint64_t slba, uint32_t blocks, const nvmesgl_piece *pieces, size_t piece_count, uint64_t tag,
                                  nvmesgl_answer *) NVMESGL_CALL(1, 9);
+/* Reserves a command as nvmehost_reserve_tagged does, of any namespace and with any flags: they stand in its entry. Refused: BAD_SIZE, BAD_OPTION, and then as nvmehost_reserve_tagged. */
+uint32_t nvmehost_reserve_request(nvmehost *, uint16_t q, const nvmesgl_request *, const nvmesgl_piece *pieces, size_t piece_count, uint64_t tag, nvmesgl_answer *) NVMESGL_CALL(1, 3, 7);
 /* Fills the draft of a Write or a Compare with the bytes, and zeros after them. Refused: NO_VALUE, NOT_A_SOURCE, WRONG_LENGTH. */
 uint32_t nvmehost_fill(nvmehost *, uint16_t q, uint16_t cid, const uint8_t *bytes, size_t byte_count, nvmesgl_answer *) NVMESGL_CALL(1, 6);
 /* Lays the draft's chain. Refused: NO_VALUE, MEMORY. */
@@ -197,8 +199,8 @@ uint32_t nvmehost_gather(nvmehost *, uint16_t q, uint16_t cid, uint8_t *buffer, 
 uint32_t nvmehost_release(nvmehost *, uint16_t q, uint16_t cid, nvmesgl_answer *) NVMESGL_CALL(1, 4);
 /* Several of these calls in one, over the bytes of several buffers, which are as one: the bytes of the first, then those of the second, and so on. All together they are 1 to
  * 2,048 whole blocks of 512 bytes; a data page each takes 4,096 of them, and the last what is left. Reserves a command, fills it with the bytes where it is a Write or a Compare,
- * builds it and submits it (answer: as nvmehost_reserve). It is not rung. Of a Read only the lengths are looked at: its bytes are gathered once it has ended. The tag is
- * that of nvmehost_reserve_tagged.
+ * builds it and submits it (answer: as nvmehost_reserve). It is not rung. Of a Read only the lengths are looked at: its bytes are gathered once it has ended. Of the commands
+ * that move no data a Flush alone can be sent so, with no byte. The tag is that of nvmehost_reserve_tagged.
  * Refused: NO_KIND, BAD_COUNT for more than 1,048,576 bytes, and then what nvmehost_reserve (BAD_COUNT for fewer than 512 bytes, LENGTH_MISMATCH where the last block is cut
  * short), nvmehost_fill, nvmehost_build and nvmehost_submit are refused for, and MEMORY for a tag that is not 0; nothing of the command is left then: one that was reserved is cancelled. */
 uint32_t nvmehost_submit_iov(nvmehost *, uint16_t q, uint32_t kind, uint64_t slba, const nvmesgl_iovec *buffers, size_t buffer_count, uint64_t tag,

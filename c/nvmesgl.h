@@ -33,9 +33,9 @@ extern "C" {
 /* Version --------------------------------------------------------------------------------------------------------- */
 
 /* The version of this header, and of the library that is linked. Versions 0.N may differ in any call and struct. */
-#define NVMESGL_VERSION "0.6.0"
+#define NVMESGL_VERSION "0.7.0"
 #define NVMESGL_VERSION_MAJOR 0
-#define NVMESGL_VERSION_MINOR 6
+#define NVMESGL_VERSION_MINOR 7
 #define NVMESGL_VERSION_PATCH 0
 const char *nvmesgl_version(void);
 
@@ -62,9 +62,9 @@ enum nvmesgl_code {
     NVMESGL_TOO_SHORT = 5,
     /* The pool has no such page. */
     NVMESGL_NO_PAGE = 6,
-    /* options.size is not the size of the struct. */
+    /* The size in the options, or in a request, is not the size of the struct. */
     NVMESGL_BAD_SIZE = 7,
-    /* A reserved word of the options is not 0. */
+    /* A reserved word of the options, or of a request, is not 0, or a flag of a request is unknown. */
     NVMESGL_BAD_OPTION = 8,
     /* The image is not 1 to 65,536 whole blocks of 512 bytes. */
     NVMESGL_BAD_IMAGE = 9,
@@ -179,7 +179,8 @@ typedef struct nvmesgl_options {
 
 #define NVMESGL_OPTIONS {sizeof(nvmesgl_options), 16, 1, 4, 256, 64, {0}}
 
-enum nvmesgl_kind { NVMESGL_READ = 0, NVMESGL_WRITE = 1, NVMESGL_COMPARE = 2 };
+/* The last three move no data, so they have no piece, and a Flush has neither blocks nor a first one. The modelled controller does not have them: 0:01. */
+enum nvmesgl_kind { NVMESGL_READ = 0, NVMESGL_WRITE = 1, NVMESGL_COMPARE = 2, NVMESGL_WRITE_ZEROES = 3, NVMESGL_VERIFY = 4, NVMESGL_FLUSH = 5 };
 
 enum nvmesgl_piece_kind { NVMESGL_PIECE = 0, NVMESGL_BUCKET = 1 };
 
@@ -189,6 +190,26 @@ typedef struct nvmesgl_piece {
     uint32_t len;
     uint32_t kind; /* enum nvmesgl_piece_kind */
 } nvmesgl_piece;
+
+/* Flags of a command that names blocks (NVM Command Set Specification 1.0, section 3.2, CDW12). A Flush has none. */
+enum nvmesgl_flag {
+    NVMESGL_FUA = 1,          /* Force Unit Access: the command ends once its data is in non-volatile media, or comes from there */
+    NVMESGL_LIMITED_RETRY = 2 /* the controller makes only a limited effort to try again where it fails */
+};
+
+/* What a command asks for, beside its pieces. Zero all of it and set its size first, or begin with NVMESGL_REQUEST. The reserved words are 0; a later version may give one
+ * a meaning. */
+typedef struct nvmesgl_request {
+    uint32_t size;   /* sizeof(nvmesgl_request) */
+    uint32_t kind;   /* enum nvmesgl_kind */
+    uint32_t nsid;   /* the namespace; where it is 0, none is named, and it is namespace 1 */
+    uint32_t flags;  /* enum nvmesgl_flag, added up */
+    uint64_t slba;   /* the first block */
+    uint32_t blocks; /* how many blocks of 512 bytes */
+    uint32_t reserved[5];
+} nvmesgl_request;
+
+#define NVMESGL_REQUEST {sizeof(nvmesgl_request), NVMESGL_READ, 1, 0, 0, 0, {0}}
 
 /* Bytes of the caller's: len bytes from base on, which may be null where there are none. It is laid out as POSIX's struct iovec. */
 typedef struct nvmesgl_iovec {
@@ -276,12 +297,15 @@ void nvmesgl_close(nvmesgl *);
 /* The driver: a command, named by its queue and identifier -------------------------------------------------------- */
 
 /* Below, "Refused" names the codes of a handle that is open, in the order in which they are looked for. But where memory is refused for the copy
- * of pieces or bytes (nvmesgl_reserve, after BAD_PIECE; nvmesgl_fill), MEMORY comes before what would be looked for next. */
+ * of pieces or bytes (nvmesgl_reserve and nvmesgl_reserve_request, after BAD_PIECE; nvmesgl_fill), MEMORY comes before what would be looked for next. */
 
-/* Reserves a command of blocks of 512 bytes from slba on: an identifier (answer.cid) and pages (data_pages, chain_pages), as a draft.
+/* Reserves a command of namespace 1, with no flag, of blocks of 512 bytes from slba on: an identifier (answer.cid) and pages (data_pages, chain_pages), as a draft.
  * Refused: NO_KIND, BAD_PIECE, NO_QUEUE, DELETING, a fault of the request (TOO_MANY_PIECES to LENGTH_MISMATCH), NO_IDENTIFIER, NO_PAGES, MEMORY. */
 uint32_t nvmesgl_reserve(nvmesgl *, uint16_t q, uint32_t kind, uint64_t slba, uint32_t blocks, const nvmesgl_piece *pieces, size_t piece_count,
                          nvmesgl_answer *) NVMESGL_CALL(1, 8);
+/* Reserves a command as nvmesgl_reserve does, of any namespace and with any flags. The modelled controller has namespace 1 alone: a command of another ends with 0:0B. It
+ * does the same with a flag as without. Refused: BAD_SIZE, BAD_OPTION, and then as nvmesgl_reserve. */
+uint32_t nvmesgl_reserve_request(nvmesgl *, uint16_t q, const nvmesgl_request *, const nvmesgl_piece *pieces, size_t piece_count, nvmesgl_answer *) NVMESGL_CALL(1, 3, 6);
 /* Fills the draft of a Write or a Compare with the bytes, and zeros after them; a draft that was built may be filled again.
  * Refused: NO_VALUE, NOT_A_SOURCE, WRONG_LENGTH, MEMORY. */
 uint32_t nvmesgl_fill(nvmesgl *, uint16_t q, uint16_t cid, const uint8_t *bytes, size_t byte_count, nvmesgl_answer *) NVMESGL_CALL(1, 6);

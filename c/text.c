@@ -12,8 +12,8 @@ const char *nvmesgl_text(uint32_t code) {
     case NVMESGL_NO_KIND: return "no kind of command has this number";
     case NVMESGL_TOO_SHORT: return "the buffer is too short";
     case NVMESGL_NO_PAGE: return "the pool has no such page";
-    case NVMESGL_BAD_SIZE: return "the options have another size";
-    case NVMESGL_BAD_OPTION: return "a reserved word of the options is not 0";
+    case NVMESGL_BAD_SIZE: return "the options or the request have another size";
+    case NVMESGL_BAD_OPTION: return "a reserved word of the options or the request is not 0, or a flag is unknown";
     case NVMESGL_BAD_IMAGE: return "an image is 1 to 65,536 whole blocks of 512 bytes";
     case NVMESGL_NO_QUEUE: return "no queue of this number takes the call";
     case NVMESGL_DELETING: return "the queue is being deleted";

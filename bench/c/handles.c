@@ -47,12 +47,14 @@ static void want(const char *what, uint32_t code, uint32_t wanted) {
 
 static void machine_calls(nvmesgl *h) {
     nvmesgl_options options = NVMESGL_OPTIONS;
+    nvmesgl_request request = {0}; /* of no size: that comes later */
     nvmesgl_piece piece = {0, 512, NVMESGL_PIECE};
     nvmesgl_pages pages;
     nvmesgl_page_owner owner;
     nvmesgl_iovec buffer = {block, 512};
     STRANGE(nvmesgl_open(h, &options, NULL, 0, &answer));
     STRANGE(nvmesgl_reserve(h, 1, 99, 0, 1, &piece, 1, &answer));
+    STRANGE(nvmesgl_reserve_request(h, 1, &request, &piece, 1, &answer));
     STRANGE(nvmesgl_ring(h, 1, &answer));
     STRANGE(nvmesgl_reap(h, 1, &answer));
     STRANGE(nvmesgl_forge(h, 1, 0, block, &answer));
@@ -71,6 +73,7 @@ static void machine_calls(nvmesgl *h) {
 
 static void host_calls(nvmehost *h) {
     nvmehost_options options = NVMEHOST_OPTIONS;
+    nvmesgl_request request = {0}; /* of no size: that comes later */
     nvmesgl_piece piece = {0, 512, NVMESGL_PIECE};
     nvmehost_doorbell bell;
     nvmehost_pages pages;
@@ -89,6 +92,7 @@ static void host_calls(nvmehost *h) {
     STRANGE(nvmehost_reap(h, 1, &bell, &answer));
     STRANGE(nvmehost_poll(h, 1, &ended, 1, &count, &bell, &answer));
     STRANGE(nvmehost_reserve_tagged(h, 1, NVMESGL_READ, 0, 1, &piece, 1, 7, &answer));
+    STRANGE(nvmehost_reserve_request(h, 1, &request, &piece, 1, 7, &answer));
     STRANGE(nvmehost_submit_iov(h, 1, NVMESGL_READ, 0, &buffer, 1, 7, &answer));
     STRANGE(nvmehost_gather_iov(h, 1, 0, &buffer, 1, &answer));
     STRANGE(nvmehost_create_cq_vector(h, 1, 3, &answer));

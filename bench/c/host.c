@@ -141,8 +141,13 @@ static uint32_t arbitrary(void) {
         size_t count = below(4);
         for (size_t i = 0; i < count; i++) pieces[i] = (nvmesgl_piece){8 * below(500), 512 * below(3), below(5) == 0};
         if (below(3) != 0) pieces[0] = (nvmesgl_piece){0, 512 * blocks, NVMESGL_PIECE}, count = 1;
-        if (below(2) == 0) return nvmehost_reserve_tagged(&host, q, below(4), below(16), blocks, pieces, count, below(3), &answer);
-        return nvmehost_reserve(&host, q, below(4), below(16), blocks, pieces, count, &answer);
+        if (below(3) == 0) {
+            nvmesgl_request request = {sizeof request - (below(20) == 0), below(7), below(3), below(5), below(16), blocks, {0}};
+            if (below(20) == 0) request.reserved[below(5)] = 1 + below(9);
+            return nvmehost_reserve_request(&host, q, &request, pieces, count, below(3), &answer);
+        }
+        if (below(2) == 0) return nvmehost_reserve_tagged(&host, q, below(7), below(16), blocks, pieces, count, below(3), &answer);
+        return nvmehost_reserve(&host, q, below(7), below(16), blocks, pieces, count, &answer);
     }
     case 2:
     case 3: memset(bytes, 7, sizeof bytes); return nvmehost_fill(&host, q, cid, bytes, below(2) == 0 ? 512 : below(sizeof bytes), &answer);
@@ -199,6 +204,60 @@ static void refuses_bad_use(const nvmehost_options *options) {
     if (nvmehost_open(&host, &wrong, &answer) != NVMESGL_NO_PAGES || answer.need != 130 || answer.free != 8) fail("too few pages for the rings", 0);
 }
 
+/* A request that is refused for its form leaves the host as it is; the namespace and the flags of one that is not stand in its entry. */
+static void asks(const nvmehost_options *options) {
+    nvmehost own = NVMEHOST_CLOSED;
+    nvmesgl_piece piece = {0, 1024, NVMESGL_PIECE}, none = {0, 1024, 2};
+    for (unsigned turn = 0; turn < 8; turn++) {
+        if (nvmehost_open(&own, options, &answer) != NVMESGL_DONE) fail("open", 0);
+        static const uint32_t codes[] = {NVMESGL_BAD_SIZE, NVMESGL_BAD_OPTION, NVMESGL_BAD_OPTION, NVMESGL_NO_KIND, NVMESGL_BAD_PIECE, NVMESGL_NO_QUEUE};
+        nvmesgl_request request = {sizeof request, NVMESGL_WRITE, turn < 4 ? turn : UINT32_MAX, turn % 4, UINT64_C(0xFEDCBA9876543210), 2, {0}}, wrong = request;
+        nvmehost_queue queue;
+        uint32_t entry[16];
+        /* Each is refused for the first that is wrong with it; then that is mended. */
+        wrong.size = turn, wrong.reserved[turn % 5] = 1u << turn, wrong.flags = 4u << turn | turn, wrong.kind = NVMESGL_FLUSH + 1 + turn;
+        for (unsigned i = 0; i < 6; i++) {
+            if (nvmehost_reserve_request(&own, 9, &wrong, i < 5 ? &none : &piece, 1, 0, &answer) != codes[i]) fail("a request with a fault", i);
+            if (i == 0) wrong.size = sizeof wrong;
+            else if (i == 1) wrong.reserved[turn % 5] = 0;
+            else if (i == 2) wrong.flags = turn % 4;
+            else if (i == 3) wrong.kind = NVMESGL_COMPARE;
+        }
+        if (nvmehost_look(&own, 1, &queue) != NVMESGL_DONE) fail("a queue", 0);
+        if (nvmehost_reserve_request(&own, 1, &request, &piece, 1, turn, &answer) != NVMESGL_DONE) fail("a request", turn);
+        uint16_t cid = answer.cid;
+        if (nvmehost_build(&own, 1, cid, &answer) != NVMESGL_DONE || nvmehost_submit(&own, 1, cid, &answer) != NVMESGL_DONE) fail("a submission", turn);
+        if (nvmehost_read(&own, (uint64_t)queue.submission_page * PAGE + 64u * queue.submission_tail, (uint8_t *)entry, sizeof entry) != NVMESGL_DONE) fail("an entry", turn);
+        if ((entry[0] & 0xFF) != 1 || entry[10] != 0x76543210 || entry[11] != 0xFEDCBA98) fail("what a request asks for", turn);
+        if (entry[1] != (request.nsid == 0 ? 1 : request.nsid)) fail("the namespace in an entry", entry[1]);
+        if (entry[12] != (1 | (turn & 1) << 30 | (turn >> 1 & 1) << 31)) fail("the flags in an entry", entry[12]);
+        if (nvmehost_reset(&own, &answer) != NVMESGL_DONE || nvmehost_collect(&own, 1, cid, &answer) != NVMESGL_DONE || answer.tag != turn) fail("the tag of a request", turn);
+        nvmehost_close(&own);
+    }
+}
+
+/* A command that moves no data takes no page; its entry names no list, and only a Flush names no blocks. */
+static void asks_without_data(const nvmehost_options *options) {
+    static const uint32_t kinds[] = {NVMESGL_WRITE_ZEROES, NVMESGL_VERIFY, NVMESGL_FLUSH}, opcodes[] = {0x08, 0x0C, 0x00};
+    nvmesgl_piece piece = {0, 512, NVMESGL_PIECE};
+    for (unsigned i = 0; i < 3; i++) {
+        uint32_t blocks = kinds[i] == NVMESGL_FLUSH ? 0 : 9, entry[16];
+        nvmehost own = NVMEHOST_CLOSED;
+        nvmehost_queue queue;
+        if (nvmehost_open(&own, options, &answer) != NVMESGL_DONE || nvmehost_look(&own, 1, &queue) != NVMESGL_DONE) fail("open", 0);
+        if (nvmehost_reserve(&own, 1, kinds[i], 0, blocks, &piece, 1, &answer) != NVMESGL_LENGTH_MISMATCH) fail("a piece without data", i);
+        if (nvmehost_reserve(&own, 1, kinds[i], 0, blocks == 0 ? 1 : 0, NULL, 0, &answer) != NVMESGL_BAD_COUNT) fail("a wrong number of blocks", i);
+        if (nvmehost_reserve(&own, 1, kinds[i], 0, blocks, NULL, 0, &answer) != NVMESGL_DONE || answer.data_pages != 0 || answer.chain_pages != 0) fail("a page without data", i);
+        uint16_t cid = answer.cid;
+        if (nvmehost_build(&own, 1, cid, &answer) != NVMESGL_DONE || nvmehost_submit(&own, 1, cid, &answer) != NVMESGL_DONE) fail("a submission", i);
+        if (nvmehost_read(&own, (uint64_t)queue.submission_page * PAGE + 64u * queue.submission_tail, (uint8_t *)entry, sizeof entry) != NVMESGL_DONE) fail("an entry", i);
+        if (entry[0] != (opcodes[i] | (uint32_t)cid << 16) || entry[1] != 1 || entry[12] != (blocks == 0 ? 0 : 8)) fail("an entry without data", i);
+        for (unsigned word = 2; word < 16; word++)
+            if (word != 12 && entry[word] != 0) fail("a word of an entry without data", word);
+        nvmehost_close(&own);
+    }
+}
+
 /* What a completion hints at is told by the collection of its command, and by a poll. */
 static void tells_hints(const nvmehost_options *options) {
     nvmehost own = NVMEHOST_CLOSED;
@@ -238,6 +297,8 @@ int main(int argc, char **argv) {
     options.queues = QUEUES - 1;
     options.entries = ENTRIES;
     refuses_bad_use(&options);
+    asks(&options);
+    asks_without_data(&options);
     tells_hints(&options);
     uint32_t code = nvmehost_open(&host, &options, &answer);
     if (code != NVMESGL_DONE) fail("open", code);

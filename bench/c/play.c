@@ -94,10 +94,14 @@ static uint64_t number(void) {
 
 static uint32_t reserve(uint16_t q) {
     const char *kind = word();
-    uint64_t slba = number();
-    uint32_t blocks = (uint32_t)number();
+    nvmesgl_request request = NVMESGL_REQUEST;
+    static const char *const kinds[] = {"read", "write", "compare", "write_zeroes", "verify", "flush"}; /* as enum nvmesgl_kind */
+    while (strcmp(kinds[request.kind], kind) != 0) request.kind++;
+    request.slba = number();
+    request.blocks = (uint32_t)number();
     size_t n = 0;
-    for (char *w; (w = word()) != NULL;) {
+    char *w;
+    while ((w = word()) != NULL && strchr("nfl", w[0]) == NULL) {
         nvmesgl_piece piece = {0, 0, w[0] == 'x'};
         if (piece.kind == NVMESGL_BUCKET) {
             piece.len = (uint32_t)strtoul(w + 1, NULL, 10);
@@ -108,8 +112,12 @@ static uint32_t reserve(uint16_t q) {
         }
         pieces[n++] = piece;
     }
-    uint32_t number_of_kind = kind[0] == 'r' ? NVMESGL_READ : kind[0] == 'w' ? NVMESGL_WRITE : NVMESGL_COMPARE;
-    return nvmesgl_reserve(&machine, q, number_of_kind, slba, blocks, n == 0 ? NULL : pieces, n, &answer);
+    if (w == NULL) return nvmesgl_reserve(&machine, q, request.kind, request.slba, request.blocks, n == 0 ? NULL : pieces, n, &answer);
+    for (; w != NULL; w = word()) {
+        if (w[0] == 'n') request.nsid = (uint32_t)number();
+        else request.flags |= w[0] == 'f' ? NVMESGL_FUA : NVMESGL_LIMITED_RETRY;
+    }
+    return nvmesgl_reserve_request(&machine, q, &request, n == 0 ? NULL : pieces, n, &answer);
 }
 
 #define IS(name) (strcmp(verb, #name) == 0)

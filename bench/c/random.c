@@ -7,11 +7,21 @@
 static unsigned queue(void) { return below(16) == 0 ? below(4) : 1 + below(2); }
 static unsigned command(void) { return below(16) == 0 ? below(6) : below(3); }
 
+/* The first three move data. */
+static const char *const kinds[] = {"read", "write", "compare", "write_zeroes", "verify", "flush"};
+
+/* A namespace and flags behind the pieces, now and then. */
+static void end_reserve(void) {
+    if (below(12) == 0) printf(" nsid %u", 1 + below(3));
+    if (below(6) == 0) printf(" fua");
+    if (below(6) == 0) printf(" lr");
+    printf("\n");
+}
+
 static void reserve(void) {
-    static const char *const kinds[] = {"read", "write", "compare"};
-    unsigned blocks = 1 + below(3), left = 512 * blocks;
+    unsigned kind = below(8) == 0 ? 3 + below(3) : below(3), blocks = kind == 5 ? 0 : 1 + below(3), left = kind > 2 && below(8) != 0 ? 0 : 512 * blocks;
     if (below(24) == 0) blocks = below(3000);
-    printf("reserve %u %s %u %u", queue(), kinds[below(3)], below(8) == 0 ? below(80) : below(4), blocks);
+    printf("reserve %u %s %u %u", queue(), kinds[kind], below(8) == 0 ? below(80) : below(4), blocks);
     while (left != 0 && below(40) != 0) {
         unsigned n = below(3) == 0 ? left : 1 + below(left);
         unsigned at = below(4) == 0 ? below(4096) : below(64);
@@ -21,7 +31,7 @@ static void reserve(void) {
         else printf(" %u+%u", at, n);
         left -= n;
     }
-    printf("\n");
+    end_reserve();
 }
 
 static void hex(unsigned n) {
@@ -39,14 +49,13 @@ static int next(void) {
 
 /* A command of a queue through all its steps. */
 static void carry(void) {
-    unsigned q = 1 + below(2), cid = below(3), walks = 1 + below(6), blocks = 1 + below(3), kind = below(3);
-    static const char *const kinds[] = {"read", "write", "compare"};
+    unsigned q = 1 + below(2), cid = below(3), walks = 1 + below(6), kind = below(8) == 0 ? 3 + below(3) : below(3), blocks = kind == 5 ? 0 : 1 + below(3);
     if (next()) {
         printf("reserve %u %s %u %u", q, kinds[kind], below(8) == 0 ? below(80) : below(4), blocks);
-        for (unsigned b = 0; b < blocks; b++) printf(" %u+512", below(3584));
-        printf("\n");
+        for (unsigned b = 0; kind < 3 && b < blocks; b++) printf(" %u+512", below(3584));
+        end_reserve();
     }
-    if (kind != 0 && next()) {
+    if (kind != 0 && kind < 3 && next()) {
         printf("fill %u %u ", q, cid);
         hex(1 + below(512 * blocks));
     }

@@ -10,6 +10,7 @@ STRUCTS = {
     "nvmesgl_options": machine.Options,
     "nvmesgl_pages": machine.Pages,
     "nvmesgl_piece": _library.CPiece,
+    "nvmesgl_request": _library.CRequest,
     "nvmesgl_iovec": _library.IoVec,
     "nvmesgl_answer": _library.Answer,
     "nvmesgl_page_owner": _library.PageOwner,

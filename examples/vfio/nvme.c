@@ -315,8 +315,9 @@ void nvme_resume(struct nvme *nvme) {
 /* Commands -------------------------------------------------------------------------------------------------------------------------------------------------- */
 
 uint32_t nvme_reserve(struct nvme *nvme, uint16_t q, uint32_t kind, uint64_t slba, uint32_t blocks, const nvmesgl_piece *pieces, size_t count, uint16_t *cid) {
+    nvmesgl_request request = {.size = sizeof request, .kind = kind, .nsid = nvme->options.nsid, .slba = slba, .blocks = blocks * (nvme->block / HOST_BLOCK)};
     nvmesgl_answer answer;
-    uint32_t code = nvmehost_reserve(&nvme->host, q, kind, slba, blocks * (nvme->block / HOST_BLOCK), pieces, count, &answer);
+    uint32_t code = nvmehost_reserve_request(&nvme->host, q, &request, pieces, count, 0, &answer);
     *cid = answer.cid;
     return code;
 }
@@ -352,32 +353,30 @@ void nvme_get(struct nvme *nvme, uint16_t q, uint16_t cid, uint8_t *bytes, uint3
     }
 }
 
-/* Builds and submits: the entry that the host laid, for namespace 1. */
-static void lay_entry(struct nvme *nvme, uint16_t q, uint16_t cid, uint32_t entry[16]) {
+static void build_and_submit(struct nvme *nvme, uint16_t q, uint16_t cid) {
     nvmesgl_answer answer;
     nvme_done(nvmehost_build(&nvme->host, q, cid, &answer), "build");
     nvme_done(nvmehost_submit(&nvme->host, q, cid, &answer), "submit");
+}
+
+/* The host counts blocks of 512 bytes: NLB in the entry that was submitted last is overwritten. */
+static void count_blocks(struct nvme *nvme, uint16_t q) {
+    uint32_t entry[16];
     nvme_read_entry(nvme, q, entry);
+    uint32_t blocks = ((entry[12] & 0xffff) + 1) / (nvme->block / HOST_BLOCK);
+    entry[12] = (entry[12] & 0xffff0000) | (blocks - 1);
+    nvme_write_entry(nvme, q, entry);
 }
 
 void nvme_submit(struct nvme *nvme, uint16_t q, uint16_t cid) {
-    uint32_t entry[16];
-    lay_entry(nvme, q, cid, entry);
-    uint32_t blocks = ((entry[12] & 0xffff) + 1) / (nvme->block / HOST_BLOCK);
-    entry[1] = nvme->options.nsid;
-    entry[12] = (entry[12] & 0xffff0000) | (blocks - 1);
-    nvme_write_entry(nvme, q, entry);
+    build_and_submit(nvme, q, cid);
+    if (nvme->block != HOST_BLOCK) count_blocks(nvme, q);
     grant_command(nvme, q, cid);
 }
 
-/* A Read that discards its bytes has no page: its entry is overwritten. */
 uint16_t nvme_submit_flush(struct nvme *nvme, uint16_t q) {
-    nvmesgl_piece bucket = {0, nvme->block, NVMESGL_BUCKET};
-    uint32_t entry[16];
     uint16_t cid;
-    nvme_done(nvme_reserve(nvme, q, NVMESGL_READ, 0, 1, &bucket, 1, &cid), "reserve");
-    lay_entry(nvme, q, cid, entry);
-    uint32_t flush[16] = {[0] = entry[0] & 0xffff0000, [1] = nvme->options.nsid};
-    nvme_write_entry(nvme, q, flush);
+    nvme_done(nvme_reserve(nvme, q, NVMESGL_FLUSH, 0, 0, NULL, 0, &cid), "reserve");
+    build_and_submit(nvme, q, cid);
     return cid;
 }

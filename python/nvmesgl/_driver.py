@@ -6,7 +6,7 @@ import ctypes
 from ctypes import byref, c_uint8
 from typing import Any, Dict, Iterable, Tuple
 
-from ._library import CPiece, PageOwner, fits, lent, lent_to_write
+from ._library import CPiece, CRequest, PageOwner, fits, lent, lent_to_write
 from ._opened import Opened
 from .words import Code, Collected, Kind, Owner, OwnerKind, Piece, Refused, Reserved
 
@@ -15,6 +15,12 @@ def lent_pieces(pieces: Iterable[Piece]) -> Tuple["ctypes.Array[CPiece]", int]:
     """The pieces as C takes them, and how many there are."""
     items = [CPiece(fits(p.offset, 32), fits(p.len, 32), int(p.bucket)) for p in pieces]
     return (CPiece * len(items))(*items), len(items)
+
+
+def request_of(kind: Kind, slba: int, blocks: int, nsid: int, force_unit_access: bool, limited_retry: bool) -> CRequest:
+    """What a command asks for, as C takes it."""
+    flags = bool(force_unit_access) + 2 * bool(limited_retry)
+    return CRequest(ctypes.sizeof(CRequest), fits(kind, 32), fits(nsid, 32), flags, fits(slba, 64), fits(blocks, 32))
 
 
 class Driver(Opened):
@@ -26,10 +32,25 @@ class Driver(Opened):
 
     # A command
 
-    def reserve(self, q: int, kind: Kind, slba: int, blocks: int, pieces: Iterable[Piece]) -> Reserved:
+    def reserve(
+        self,
+        q: int,
+        kind: Kind,
+        slba: int,
+        blocks: int,
+        pieces: Iterable[Piece],
+        *,
+        nsid: int = 1,
+        force_unit_access: bool = False,
+        limited_retry: bool = False,
+    ) -> Reserved:
         """Reserves a command of `blocks` blocks of 512 bytes from `slba` on, as a draft: `cid`, `data_pages`, `chain_pages`. Its pages are out of the
-        pool until it is submitted."""
-        told = self._call("reserve", q, kind, slba, blocks, *lent_pieces(pieces))
+        pool until it is submitted. It is of namespace `nsid` (0 is 1), with the flags that are set."""
+        request = request_of(kind, slba, blocks, nsid, force_unit_access, limited_retry)
+        return self._reserved("reserve_request", q, byref(request), *lent_pieces(pieces))
+
+    def _reserved(self, name: str, *arguments: object) -> Reserved:
+        told = self._call(name, *arguments)
         return Reserved(told.cid, told.data_pages, told.chain_pages)
 
     def fill(self, q: int, cid: int, content: Any) -> None:

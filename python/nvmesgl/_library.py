@@ -124,6 +124,18 @@ class CPiece(Structure):
     _fields_ = [("offset", c_uint32), ("len", c_uint32), ("kind", c_uint32)]
 
 
+class CRequest(Structure):
+    _fields_ = [
+        ("size", c_uint32),
+        ("kind", c_uint32),
+        ("nsid", c_uint32),
+        ("flags", c_uint32),
+        ("slba", c_uint64),
+        ("blocks", c_uint32),
+        ("reserved", c_uint32 * 5),
+    ]
+
+
 class Answer(Structure):
     _fields_ = [
         ("state", c_uint32),
@@ -151,7 +163,6 @@ class PageOwner(Structure):
 
 # What the calls of a command take, of a machine and of a host alike.
 COMMAND_CALLS: Dict[str, List[Any]] = {
-    "reserve": [POINTER(Handle), U16, U32, U64, U32, POINTER(CPiece), c_size_t, POINTER(Answer)],
     "fill": [POINTER(Handle), U16, U16, c_void_p, c_size_t, POINTER(Answer)],
     "gather": [POINTER(Handle), U16, U16, c_void_p, c_size_t, POINTER(Answer)],
     **{name: [POINTER(Handle), U16, U16, POINTER(Answer)] for name in ("build", "submit", "cancel", "collect", "release", "abort")},

@@ -26,8 +26,8 @@ import enum
 from ctypes import POINTER, Structure, byref, c_bool, c_size_t, c_uint8, c_uint16, c_uint32, c_uint64, c_void_p
 from typing import Any, Dict, Iterable, List, NamedTuple, Optional
 
-from ._driver import Driver, lent_pieces
-from ._library import COMMAND_CALLS, HINTS, OPTION_WORDS, PAGE_COUNTS, RESERVED, U16, U32, U64, Answer, CPiece, Handle, IoVec, PageOwner, all_lent, declare, fits, lent
+from ._driver import Driver, lent_pieces, request_of
+from ._library import COMMAND_CALLS, HINTS, OPTION_WORDS, PAGE_COUNTS, RESERVED, U16, U32, U64, Answer, CPiece, CRequest, Handle, IoVec, PageOwner, all_lent, declare, fits, lent
 from .words import Code, Collected, Hints, Kind, Piece, Refused, Reserved, State, Status
 
 __all__ = ["Collected", "Counts", "Doorbell", "Ended", "Host", "PAGE_BYTES", "Place", "Polled", "Queue", "QueueState", "Reaped", "Right", "Rings", "Run"]
@@ -206,7 +206,7 @@ _CALLS: Dict[str, List[Any]] = {
     "ring": [_HANDLE, U16, _BELL, _ANSWER],
     "reap": [_HANDLE, U16, _BELL, _ANSWER],
     "poll": [_HANDLE, U16, POINTER(CEnded), c_size_t, POINTER(c_size_t), _BELL, _ANSWER],
-    "reserve_tagged": [_HANDLE, U16, U32, U64, U32, POINTER(CPiece), c_size_t, U64, _ANSWER],
+    "reserve_request": [_HANDLE, U16, POINTER(CRequest), POINTER(CPiece), c_size_t, U64, _ANSWER],
     "submit_iov": [_HANDLE, U16, U32, U64, POINTER(IoVec), c_size_t, U64, _ANSWER],
     "gather_iov": [_HANDLE, U16, U16, POINTER(IoVec), c_size_t, _ANSWER],
     "reset": [_HANDLE, _ANSWER],
@@ -284,11 +284,24 @@ class Host(Driver):
 
     # A command, with its tag
 
-    def reserve(self, q: int, kind: Kind, slba: int, blocks: int, pieces: Iterable[Piece], tag: int = 0) -> Reserved:
+    def reserve(
+        self,
+        q: int,
+        kind: Kind,
+        slba: int,
+        blocks: int,
+        pieces: Iterable[Piece],
+        tag: int = 0,
+        *,
+        nsid: int = 1,
+        force_unit_access: bool = False,
+        limited_retry: bool = False,
+    ) -> Reserved:
         """Reserves a command of `blocks` blocks of 512 bytes from `slba` on, as a draft: `cid`, `data_pages`, `chain_pages`. Its pages are out of the
-        pool until it is submitted. `reap`, `collect` and `poll` tell the tag, of 64 bits, when the command has ended."""
-        told = self._call("reserve_tagged", q, kind, slba, blocks, *lent_pieces(pieces), tag)
-        return Reserved(told.cid, told.data_pages, told.chain_pages)
+        pool until it is submitted. It is of namespace `nsid` (0 is 1), with the flags that are set. `reap`, `collect` and `poll` tell the tag, of 64
+        bits, when the command has ended."""
+        request = request_of(kind, slba, blocks, nsid, force_unit_access, limited_retry)
+        return self._reserved("reserve_request", q, byref(request), *lent_pieces(pieces), tag)
 
     # A command of several buffers
 
@@ -297,8 +310,7 @@ class Host(Driver):
         not rung. Only all of them together are whole blocks; of a Read only the lengths are looked at. The tag is that of `reserve`.
         Refused, nothing of the command is left."""
         array, count, _held = all_lent(buffers)
-        told = self._call("submit_iov", q, kind, slba, array, count, tag)
-        return Reserved(told.cid, told.data_pages, told.chain_pages)
+        return self._reserved("submit_iov", q, kind, slba, array, count, tag)
 
     def gather_all(self, q: int, cid: int, buffers: Iterable[Any]) -> int:
         """Gathers the bytes of a finished Read into several writable buffers, one after the other, and returns how many there are. TOO_SHORT where they have not so

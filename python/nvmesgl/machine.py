@@ -7,7 +7,7 @@ from ctypes import POINTER, Structure, byref, c_bool, c_size_t, c_uint8, c_uint3
 from typing import Any, Dict, Iterable, List, NamedTuple, Optional
 
 from ._driver import Driver
-from ._library import COMMAND_CALLS, OPTION_WORDS, PAGE_COUNTS, RESERVED, U16, U32, U64, Answer, Handle, IoVec, PageOwner, all_lent, declare, fits, lent, lent_to_write
+from ._library import COMMAND_CALLS, OPTION_WORDS, PAGE_COUNTS, RESERVED, U16, U32, U64, Answer, CPiece, CRequest, Handle, IoVec, PageOwner, all_lent, declare, fits, lent, lent_to_write
 from .words import Collected, State, Status, Step, Walk
 
 __all__ = ["Completion", "Counts", "Machine"]
@@ -46,6 +46,7 @@ _CALLS: Dict[str, List[Any]] = {
     "open": [_HANDLE, POINTER(Options), c_void_p, c_size_t, _ANSWER],
     "close": [_HANDLE],
     **COMMAND_CALLS,
+    "reserve_request": [_HANDLE, U16, POINTER(CRequest), POINTER(CPiece), c_size_t, _ANSWER],
     "walk": [_HANDLE, U16, U16, _ANSWER],
     "complete": [_HANDLE, U16, U16, _ANSWER],
     "forge": [_HANDLE, U16, U16, POINTER(c_uint8), _ANSWER],

@@ -71,6 +71,9 @@ class Kind(enum.IntEnum):
     READ = 0
     WRITE = 1
     COMPARE = 2
+    WRITE_ZEROES = 3
+    VERIFY = 4
+    FLUSH = 5
 
 
 class State(enum.IntEnum):

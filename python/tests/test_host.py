@@ -109,6 +109,27 @@ def test_calls():
     refused(Code.CLOSED_HANDLE, host.ring, 1)
 
 
+def test_a_namespace_and_flags():
+    """They stand in the entry: NSID in bytes 4 to 7, Force Unit Access and Limited Retry in bits 30 and 31 of CDW12."""
+    with Host(pages=32, entries=8) as host:
+        device = Device(host)
+        device.rings[1], device.heads[1], device.tails[1] = host.rings(1), 0, (0, 1)
+        for nsid, of in ((1, {}), (1, {"nsid": 0}), (7, {"nsid": 7}), (0xFFFFFFFF, {"nsid": 0xFFFFFFFF})):
+            for flags in range(4):
+                at = host.rings(1).submission + 64 * host.queue(1).submission_tail
+                cid = host.reserve(1, Kind.WRITE, 5 << 40, 2, [Piece(0, 1024)], 9, **of, force_unit_access=flags & 1 == 1, limited_retry=flags & 2 == 2).cid
+                host.build(1, cid)
+                host.submit(1, cid)
+                assert struct.unpack("<HHI", host.read(at, 8)) == (0x4001, cid, nsid)
+                assert struct.unpack("<QI", host.read(at + 40, 12)) == (5 << 40, flags << 30 | 1)
+                device.ring(host.ring(1))
+                assert host.reap(1).tag == 9 and host.collect(1, cid) == (0, 0)
+                host.release(1, cid)
+        refused(Code.NO_KIND, host.reserve, 1, 6, 0, 1, [Piece(0, 512)])
+        with pytest.raises(ctypes.ArgumentError):
+            host.reserve(1, Kind.READ, 0, 1, [Piece(0, 512)], nsid=-1)
+
+
 def test_hints():
     with Host(pages=32, entries=8) as host:
         device = Device(host)
@@ -170,7 +191,7 @@ def test_commands_of_several_buffers():
         assert collected != (0, 0) and collected.tag == 9
         refused(Code.NO_QUEUE, host.poll, 1)
         refused(Code.NO_QUEUE, host.send, 1, Kind.READ, 0, [bytes(512)])
-        refused(Code.NO_KIND, host.send, 0, 3, 0, [])
+        refused(Code.NO_KIND, host.send, 0, 6, 0, [])
 
 
 def test_openings_that_are_refused():

@@ -25,7 +25,7 @@ def test_refusals():
     with Machine(image=bytes(range(256)) * 4) as machine:
         why = refused(Code.NO_PAGES, machine.reserve, 1, Kind.READ, 0, 13, [Piece(8 * k, 512) for k in range(13)])
         assert (why.need, why.free) == (14, 12)
-        assert str(why) == "reserve: NO_PAGES: too few pages are free (need 14, free 12)"
+        assert str(why) == "reserve_request: NO_PAGES: too few pages are free (need 14, free 12)"
         refused(Code.NO_QUEUE, machine.ring, 9)
         refused(Code.NO_VALUE, machine.submit, 1, 0)
         refused(Code.NO_PAGE, machine.owner, 16)
@@ -58,7 +58,7 @@ def test_a_refusal_goes_from_process_to_process():
     with Machine() as machine:
         why = refused(Code.NO_PAGES, machine.reserve, 1, Kind.READ, 0, 13, [Piece(0, 512)] * 13)
     again = pickle.loads(pickle.dumps(why))
-    assert (type(again), str(again), again.call, again.code, again.need, again.free) == (Refused, str(why), "reserve", Code.NO_PAGES, why.need, why.free)
+    assert (type(again), str(again), again.call, again.code, again.need, again.free) == (Refused, str(why), "reserve_request", Code.NO_PAGES, why.need, why.free)
 
 
 BUFFERS = {
@@ -108,6 +108,31 @@ def test_gather_into_a_buffer():
         assert words.tobytes() == bytes(range(256)) * 32 + array.array("I", [7, 7]).tobytes()
         with pytest.raises(BufferError):
             machine.gather_into(1, cid, memoryview(bytearray(20000))[::2])
+
+
+def test_a_namespace_and_flags():
+    with Machine(blocks=8) as machine:
+        for kind in (Kind.READ, Kind.WRITE, Kind.COMPARE):
+            one = machine.reserve(1, kind, 7, 1, [Piece(0, 512)], nsid=2).cid
+            assert str(carry(machine, 1, one)) == "0:0B Invalid Namespace or Format"
+            machine.release(1, one)
+            for nsid in (0, 1):
+                one = machine.reserve(1, kind, 7, 1, [Piece(0, 512)], nsid=nsid, force_unit_access=True, limited_retry=True).cid
+                assert carry(machine, 1, one) == (0, 0)
+                machine.release(1, one)
+        refused(Code.NO_KIND, machine.reserve, 1, 6, 0, 1, [Piece(0, 512)])
+        with pytest.raises(ctypes.ArgumentError):
+            machine.reserve(1, Kind.READ, 0, 1, [Piece(0, 512)], nsid=1 << 32)
+
+
+def test_commands_without_data():
+    with Machine(blocks=8) as machine:
+        for kind, blocks in ((Kind.WRITE_ZEROES, 8), (Kind.VERIFY, 8), (Kind.FLUSH, 0)):
+            refused(Code.LENGTH_MISMATCH, machine.reserve, 1, kind, 0, blocks, [Piece(0, 512)])
+            one = machine.reserve(1, kind, 0, blocks, [])
+            assert (one.data_pages, one.chain_pages) == (0, 0)
+            assert str(carry(machine, 1, one.cid)) == "0:01 Invalid Command Opcode"
+            machine.release(1, one.cid)
 
 
 def test_a_command_that_the_fetch_refuses():

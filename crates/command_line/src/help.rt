@@ -31,7 +31,8 @@ Lines that begin with `>` are passed over: they are the answers of a transcript.
 
 /// What `nvmesgl steps --help` says last.
 pub const STEPS_AFTER: &str = "A script has one step on each line; `#` begins a comment.
-  reserve Q KIND SLBA BLOCKS PIECE..   KIND is read, write or compare; a PIECE is OFFSET+LEN,
+  reserve Q KIND SLBA BLOCKS PIECE..   KIND is read, write or compare, or, without a piece,
+                                       write_zeroes, verify or flush; a PIECE is OFFSET+LEN,
                                        bytes of a page of its own, or xLEN, bytes left out
   fill Q CID HEX                       the bytes of a Write or Compare, zeros after them
   build Q CID                          lays the scatter-gather list

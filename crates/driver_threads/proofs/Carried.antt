@@ -5,7 +5,7 @@ use Rattle.std.proofs.lemmas.List.{append-nil, append_assoc, length-append, map-
 use Rattle.std.specs.{List.AllZip}
 use Rattle.entry_codec.specs.declared.status.Status.{Status}
 use Rattle.io_commands.specs.{Asked.Request, Drafts.DraftContents, Values.{TicketContents}}
-use Rattle.io_commands.specs.declared.request.{Kind.{Kind, TheVariants.{Read, Write, Compare}}}
+use Rattle.io_commands.specs.declared.request.{Kind.{Kind, TheVariants.{Read, Write, Compare, WriteZeroes, Verify, Flush}}}
 use Rattle.machine_model.specs.{State.State, Step.IsReserved}
 use Rattle.driver_book.specs.{Calls.{Does, receipt, settled, status_at}, Entries.asked_of, History.accepted, State.{SeatContents}, declared.report.{Asked.Asked, Receipt.Receipt}}
 use Rattle.driver_book.proofs.Latest.{same_beginning, stands_on}
@@ -30,16 +30,25 @@ same_queue : (kind : Kind) (bytes : List ℕ) (d : DraftContents) → (with_byte
 same_queue Read bytes d = refl
 same_queue Write bytes d = refl
 same_queue Compare bytes d = refl
+same_queue WriteZeroes bytes d = refl
+same_queue Verify bytes d = refl
+same_queue Flush bytes d = refl
 
 same_identifier : (kind : Kind) (bytes : List ℕ) (d : DraftContents) → (with_bytes_of kind bytes d).cid ≡ d.cid
 same_identifier Read bytes d = refl
 same_identifier Write bytes d = refl
 same_identifier Compare bytes d = refl
+same_identifier WriteZeroes bytes d = refl
+same_identifier Verify bytes d = refl
+same_identifier Flush bytes d = refl
 
 same_request : (kind : Kind) (bytes : List ℕ) (d : DraftContents) → (with_bytes_of kind bytes d).request ≡ d.request
 same_request Read bytes d = refl
 same_request Write bytes d = refl
 same_request Compare bytes d = refl
+same_request WriteZeroes bytes d = refl
+same_request Verify bytes d = refl
+same_request Flush bytes d = refl
 
 -- How jobs went, and one more
 

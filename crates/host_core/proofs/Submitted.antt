@@ -6,7 +6,8 @@ use Rattle.std.proofs.Common.{◌≡◌, ℕ, ◌+◌, ◌/◌, ◌%◌, ◌<◌
 use Rattle.std.proofs.lemmas.{Bool.{true≢false, false_from_ne_true}, Option.{slice_get-map, slice_get_within}}
 use Rattle.std.specs.{List.AllByRecursion, Option.{option_map_or, option_map}}
 use Rattle.entry_codec.specs.{Submission.{submission_bytes, FitsSubmission}, declared.submission.SubEntry.SubEntry}
-use Rattle.io_commands.{proofs.Building.carries_entry, specs.{DataBytes.PagesOut, Drafts.{DraftContents, draft_first}, Values.numbers_of}}
+use Rattle.sgl_descriptor.specs.Spelling.{spelling}
+use Rattle.io_commands.{proofs.{Building.carries_entry, Pointers.{length-pointer_of, psdt_fits}}, specs.{DataBytes.PagesOut, Drafts.{DraftContents, draft_first}, Requests.moves_data, Values.numbers_of}}
 use Rattle.sgl_chain.proofs.Spelled.{length-spelling}
 use Rattle.machine_model.proofs.{Counting.held_once, Kept.live_has_sq, Steps.{length-with_pages, first_fails, found_all}}
 use Rattle.machine_model.specs.{Memory.with_pages, Proper.IsProperDraft, After.{change, after_submit}, declared.words.Work.TheVariants.{Io, Management}}
@@ -53,9 +54,10 @@ are-pages : (d : DraftContents) → IsProperDraft d → AllByRecursion (λ (page
 are-pages d proper =
     all-from (λ (page : ℕ × List ℕ). length page.1 ≡ 4096) (d.data_pages ++ d.chain_pages) (joined-pages d.data_pages d.chain_pages proper.data_pages proper.chain_pages)
 
--- its first descriptor has sixteen bytes
+-- its data pointer has sixteen bytes
 draft-sgl1 : (d : DraftContents) (entry : SubEntry) → IsProperDraft d → d.entry ≡ Some entry → length entry.sgl1 ≡ 16
-draft-sgl1 d entry proper built = ap (λ (e : SubEntry). length e.sgl1) (carries_entry d entry proper.draft built) ∙ length-spelling (draft_first d)
+draft-sgl1 d entry proper built = ap (λ (e : SubEntry). length e.sgl1) (carries_entry d entry proper.draft built)
+    ∙ length-pointer_of d.request.kind (spelling (draft_first d)) (length-spelling (draft_first d))
 
 -- the entry can be posted behind the pages
 pub can-post : (t : Tables) (d : DraftContents) (x : Queue) (entry : SubEntry) → IsWhole t → CanSubmit t d x entry → CanPost (brought_in d t) d.q x entry
@@ -158,7 +160,7 @@ full_is t queues q x at =
 
 entry-fits : (d : DraftContents) (entry : SubEntry) → IsProperDraft d → d.entry ≡ Some entry → FitsSubmission entry
 entry-fits d entry proper built =
-    subst (λ (e : SubEntry). FitsSubmission e) (sym (carries_entry d entry proper.draft built)) (record { fuse = omega arith; psdt = omega arith })
+    subst (λ (e : SubEntry). FitsSubmission e) (sym (carries_entry d entry proper.draft built)) (record { fuse = omega arith; psdt = psdt_fits (moves_data d.request.kind) })
 
 pub submit_ready : (t : Tables) (d : DraftContents) (entry : SubEntry) → IsWhole t → IsProperDraft d → BelongsToDraft t.records d → d.entry ≡ Some entry
     → passes is_live (state_at t.queues d.q) ≡ true → queue_full (state_of t) d.q ≡ false → IsReady t d entry

@@ -10,11 +10,10 @@ use Rattle.page_memory.specs.declared.page.Half.TheVariants.{Submission, Complet
 use Rattle.host_core.specs.declared.rights.{Right.Right, Run.Run, QueueMemory.QueueMemory}
 use Rattle.host_core.specs.declared.rights.Right.TheVariants as right
 
--- A Read's data is written, that of a Write and of a Compare is read, and so is a command's chain.
+-- A Read's data is written, that of another command is read, and so is a command's chain.
 abbrev pub right_of_data : Kind → Right
 right_of_data kind.Read = right.Write
-right_of_data kind.Write = right.Read
-right_of_data kind.Compare = right.Read
+right_of_data k = right.Read
 
 abbrev pub right_by_role : Kind → Role → Right
 right_by_role k Data = right_of_data k

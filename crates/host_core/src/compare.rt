@@ -20,9 +20,13 @@ fn same_kind(a: Kind, b: Kind) -> bool
     ensures { result ≡ spec_same_kind a b }
 {
     match (a, b) {
-        (Kind::Read, Kind::Read) | (Kind::Write, Kind::Write) | (Kind::Compare, Kind::Compare) =>
-            true,
-        (Kind::Read | Kind::Write | Kind::Compare, _) => false,
+        (Kind::Read, Kind::Read)
+        | (Kind::Write, Kind::Write)
+        | (Kind::Compare, Kind::Compare)
+        | (Kind::WriteZeroes, Kind::WriteZeroes)
+        | (Kind::Verify, Kind::Verify)
+        | (Kind::Flush, Kind::Flush) => true,
+        _ => false,
     }
 }
 

@@ -56,7 +56,7 @@ fn right_of(kind: Kind) -> Right
 {
     match kind {
         Kind::Read => Right::Write,
-        Kind::Write | Kind::Compare => Right::Read,
+        _ => Right::Read,
     }
 }
 

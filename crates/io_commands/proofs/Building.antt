@@ -1,15 +1,15 @@
 -- What building a draft rests on, and what its entry and pages say.
 use Rattle.sgl_descriptor.specs.declared.Part.TheVariants as part
-use Rattle.std.proofs.Common.{◌≡◌, ℕ, suc, List, [], ◌∷◌, refl, ap, length, arith, ◌≤◌, ◌<◌, ◌+◌, ◌*◌, zero, ◌++◌, Some, None, subst, ◌∙◌, take, drop, length-append, Option, sym, ◌-◌, ◌^◌, ◌%◌, Bool, true, false, nat_le, All, if◌then◌else◌}
+use Rattle.std.proofs.Common.{◌≡◌, ℕ, suc, List, [], ◌∷◌, refl, ap, length, arith, ◌≤◌, ◌<◌, ◌+◌, ◌*◌, zero, ◌++◌, Some, None, subst, ◌∙◌, take, drop, length-append, Option, sym, ◌-◌, ◌^◌, ◌%◌, Bool, true, false, nat_le, nat_lt, ◌==◌, ◌||◌, not, replicate, true≢false, All, if◌then◌else◌}
 use Rattle.std.proofs.{Math.Seq.{take-append_seam, drop-append_seam}, lemmas.{Bool.Decides.nat_tests, Grind.common_steps}}
-use Rattle.std.proofs.lemmas.List.{length-map, length-drop, length-take-le, get_or_append_left, length-take, Elements.{All-head, All-tail, All-nil, All-cons}}
+use Rattle.std.proofs.lemmas.List.{length-map, length-drop, length-take-le, get_or_append_left, length-take, Elements.{All-head, All-tail, All-nil, All-cons}, Sums.sum_by-cons}
 use Rattle.sgl_descriptor.specs.{Spelling.Fits, Targets.descriptor_of_part, declared.{Descriptor.Descriptor, Part.Part}}
 use Rattle.sgl_chain.{proofs.Joins.{joined_few, joined_from, from_list}, specs.Chains.{segment_bytes, Sgl, pages_needed, segments_on}}
 use Rattle.sgl_chain.specs.{Joining.{joined, joins, both}, Laws.LaidChainsSpell, Spells.{Holds, IsLaid, SpellsWhereLaid}}
 use Rattle.page_memory.specs.{Memory.Memory, Pages.with_bytes}
 use Rattle.io_commands.specs.{Asked.Request, DataBytes.{PagesOut, filled}}
 use Rattle.io_commands.specs.Drafts.{laid, io_entry, DraftContents, IsDraft, built, draft_segments, draft_parts, draft_first, draft_entry, HoldsPages, SpellsItsParts, IsBuiltIfAny, IsBuilt, DraftsCarryTheirEntry, BuiltDraftsSpell}
-use Rattle.io_commands.specs.{Jobs.block_number, Requests.{fault_of, flag_bits, data_count, parts_of, joined_parts, FitsPiece}, Values.{numbers_of, IsGood}, declared.request.{Flags.Flags, Kind.Kind}}
+use Rattle.io_commands.specs.{Jobs.block_number, Requests.{fault_of, flag_bits, moves_data, names_blocks, need_of, is_count, is_empty_piece, counted_length, counted_lengths, data_count, parts_of, joined_parts, FitsPiece}, Values.{numbers_of, IsGood}, declared.request.{Flags.Flags, Kind.{Kind, TheVariants.{Read, Write, Compare, WriteZeroes, Verify, Flush}}}}
 use Rattle.io_commands.specs.declared.request.Piece.{Piece, TheVariants.{Data, Bucket}}
 use Rattle.entry_codec.specs.declared.submission.SubEntry.{SubEntry}
 
@@ -38,10 +38,60 @@ length-laid (s ∷ segments) (page ∷ pages) same = ap suc (length-laid segment
 
 -- What building a draft rests on.
 
-pub some_pieces : (kind : Kind) (blocks : ℕ) (pieces : List Piece) → fault_of kind blocks pieces ≡ None → 0 < length pieces
-some_pieces kind zero [] h = cc
-some_pieces kind (suc n) [] h = grind (arith, nat_tests)
-some_pieces kind blocks (piece ∷ pieces) h = omega arith
+-- a good request has so many blocks as its kind may have, and its pieces are just its bytes
+pub has_count : (kind : Kind) (blocks : ℕ) (pieces : List Piece) → fault_of kind blocks pieces ≡ None → is_count kind blocks ≡ true
+has_count kind blocks pieces h = grind (arith, nat_tests)
+
+pub counted : (kind : Kind) (blocks : ℕ) (pieces : List Piece) → fault_of kind blocks pieces ≡ None → counted_lengths kind pieces ≡ need_of kind blocks
+counted kind blocks pieces h = grind (arith, nat_tests)
+
+-- where it moves data it names blocks
+pub moves_names : (kind : Kind) → moves_data kind ≡ true → names_blocks kind ≡ true
+moves_names Read moves = refl
+moves_names Write moves = refl
+moves_names Compare moves = refl
+moves_names WriteZeroes moves = refl
+moves_names Verify moves = refl
+moves_names Flush moves = absurd (true≢false (sym moves))
+
+in_range : (blocks : ℕ) (names : Bool) → names ≡ true → (if names then not ((blocks == 0) || nat_lt 2048 blocks) else blocks == 0) ≡ true → 0 < blocks
+in_range blocks true is h = grind (arith, nat_tests)
+in_range blocks false is h = absurd (true≢false (sym is))
+
+at_most : (blocks : ℕ) (names : Bool) → (if names then not ((blocks == 0) || nat_lt 2048 blocks) else blocks == 0) ≡ true → blocks ≤ 2048
+at_most blocks true h = grind (arith, nat_tests)
+at_most blocks false h = grind (arith, nat_tests)
+
+-- so one that moves data has 1 to 2,048 of them, and pieces
+pub some_blocks : (kind : Kind) (blocks : ℕ) (pieces : List Piece) → fault_of kind blocks pieces ≡ None → moves_data kind ≡ true → 0 < blocks
+some_blocks kind blocks pieces h moves = in_range blocks (names_blocks kind) (moves_names kind moves) (has_count kind blocks pieces h)
+
+pub few_blocks : (kind : Kind) (blocks : ℕ) (pieces : List Piece) → fault_of kind blocks pieces ≡ None → blocks ≤ 2048
+few_blocks kind blocks pieces h = at_most blocks (names_blocks kind) (has_count kind blocks pieces h)
+
+pub some_pieces : (kind : Kind) (blocks : ℕ) (pieces : List Piece) → fault_of kind blocks pieces ≡ None → moves_data kind ≡ true → 0 < length pieces
+some_pieces kind blocks [] h moves =
+    let need : 0 ≡ 512 * blocks = counted kind blocks [] h ∙ ap (λ (b : Bool). if b then 512 * blocks else 0) moves in
+    let some = some_blocks kind blocks [] h moves in
+    absurd (omega (arith, need, some))
+some_pieces kind blocks (piece ∷ pieces) h moves = omega arith
+
+some_length : (kind : Kind) (piece : Piece) → moves_data kind ≡ false → is_empty_piece piece ≡ false → counted_length kind piece ≡ 0 → ⊥
+some_length kind (Data offset len) still some none = grind (arith, nat_tests)
+some_length WriteZeroes (Bucket len) still some none = grind (arith, nat_tests)
+some_length Verify (Bucket len) still some none = grind (arith, nat_tests)
+some_length Flush (Bucket len) still some none = grind (arith, nat_tests)
+some_length Read (Bucket len) still some none = true≢false still
+some_length Write (Bucket len) still some none = true≢false still
+some_length Compare (Bucket len) still some none = true≢false still
+
+-- one that moves none has no piece
+pub no_pieces : (kind : Kind) (blocks : ℕ) (pieces : List Piece) → fault_of kind blocks pieces ≡ None → moves_data kind ≡ false → pieces ≡ []
+no_pieces kind blocks [] h still = refl
+no_pieces kind blocks (piece ∷ pieces) h still =
+    let need : counted_lengths kind (piece ∷ pieces) ≡ 0 = counted kind blocks (piece ∷ pieces) h ∙ ap (λ (b : Bool). if b then 512 * blocks else 0) still in
+    let none : is_empty_piece piece ≡ false = grind (arith, nat_tests) in
+    absurd (some_length kind piece still none (omega (arith, need, sum_by-cons (counted_length kind) piece pieces)))
 
 pub length-parts_of : (pieces : List Piece) (numbers : List ℕ) → data_count pieces ≤ length numbers → length (parts_of pieces numbers) ≡ length pieces
 length-parts_of [] numbers few = refl
@@ -66,11 +116,11 @@ joined_parts_few pieces numbers =
     let most : length (parts_of pieces numbers) ≤ length pieces = parts_few pieces numbers in
     omega arith
 
--- a good request has parts in its pages
-pub some_parts : (r : Request) (numbers : List ℕ) → IsGood r → data_count r.pieces ≤ length numbers → 0 < length (joined_parts r.pieces numbers)
-some_parts r numbers good enough =
+-- a good request that moves data has parts in its pages
+pub some_parts : (r : Request) (numbers : List ℕ) → IsGood r → moves_data r.kind ≡ true → data_count r.pieces ≤ length numbers → 0 < length (joined_parts r.pieces numbers)
+some_parts r numbers good moves enough =
     let all : length (parts_of r.pieces numbers) ≡ length r.pieces = length-parts_of r.pieces numbers enough in
-    let some : 0 < length r.pieces = some_pieces r.kind r.blocks r.pieces good in
+    let some : 0 < length r.pieces = some_pieces r.kind r.blocks r.pieces good moves in
     some_joined (parts_of r.pieces numbers) (omega arith)
 
 -- the first of its pages are enough for its data pieces
@@ -126,9 +176,41 @@ held_laid m (s ∷ segments) (page ∷ pages) count h = (held_front m (4096 * pa
 
 pub built_spells : (d : DraftContents) (chain : Sgl) → length (draft_segments d) ≡ length d.chain_pages → chain.segments ≡ draft_segments d → chain.first ≡ draft_first d →
     SpellsWhereLaid (numbers_of d.chain_pages) chain (draft_parts d) → SpellsItsParts (built d)
-built_spells d chain count segments first spells = λ m held.
+built_spells d chain count segments first spells = λ moves m held.
     rw (same_numbers (draft_segments d) d.chain_pages count, ← first)
     (spells m (rw segments (held_laid m (draft_segments d) d.chain_pages (omega (arith, count)) held)))
+
+-- A draft that moves no data has no chain.
+
+laid-none : (segments : List (List Descriptor)) → laid segments [] ≡ []
+laid-none [] = refl
+laid-none (s ∷ segments) = refl
+
+no_pages : (pages : PagesOut) → length pages ≡ 0 → pages ≡ []
+no_pages [] none = refl
+no_pages (page ∷ pages) none = absurd (omega (arith, none))
+
+pub no_chain : (d : DraftContents) → IsDraft d → moves_data d.request.kind ≡ false → d.chain_pages ≡ []
+no_chain d h still =
+    no_pages d.chain_pages (h.chain_has_pages
+    ∙ ap (λ (pieces : List Piece). pages_needed (length (joined_parts pieces (numbers_of d.data_pages))) d.segment) (no_pieces d.request.kind d.request.blocks d.request.pieces h.good still))
+
+-- with its entry it is built
+pub built_still : (d : DraftContents) (entry : SubEntry) → IsDraft d → moves_data d.request.kind ≡ false → entry ≡ io_entry d.cid d.request (replicate 16 0)
+    → ◌≡◌ {A = DraftContents} (record d { entry = Some entry }) (built d)
+built_still d entry h still is =
+    let none : d.chain_pages ≡ [] = no_chain d h still in
+    let laid_there : laid (draft_segments d) d.chain_pages ≡ d.chain_pages = ap (laid (draft_segments d)) none ∙ laid-none (draft_segments d) ∙ sym none in
+    let named : io_entry d.cid d.request (replicate 16 0) ≡ draft_entry d = rw still refl in
+    rw (laid_there, is ∙ named) refl
+
+pub no_segments : (d : DraftContents) → IsDraft d → moves_data d.request.kind ≡ false → length (draft_segments d) ≡ length d.chain_pages
+no_segments d h still =
+    let none : d.chain_pages ≡ [] = no_chain d h still in
+    ap (λ (pages : PagesOut). length (segments_on d.segment (numbers_of pages) (draft_parts d))) none ∙ ap length (sym none)
+
+pub still_keeps : (d : DraftContents) → IsDraft d → moves_data d.request.kind ≡ false → IsDraft (built d)
+still_keeps d h still = built_keeps d (no_segments d h still) h
 
 -- Filling a draft's data pages.
 
@@ -210,23 +292,16 @@ segments_few s (page ∷ pages) parts = few_of (nat_le (length parts) s) _ _ _ (
 pub few_pieces : (kind : Kind) (blocks : ℕ) (pieces : List Piece) → fault_of kind blocks pieces ≡ None → length pieces ≤ 1024
 few_pieces kind blocks pieces h = grind (arith, nat_tests)
 
--- and moves 1 to 2,048 blocks
-pub some_blocks : (kind : Kind) (blocks : ℕ) (pieces : List Piece) → fault_of kind blocks pieces ≡ None → 0 < blocks
-some_blocks kind blocks pieces h = grind (arith, nat_tests)
-
-pub few_blocks : (kind : Kind) (blocks : ℕ) (pieces : List Piece) → fault_of kind blocks pieces ≡ None → blocks ≤ 2048
-few_blocks kind blocks pieces h = grind (arith, nat_tests)
-
--- so its entry names its blocks: the bits of its flags lie above those of their number
+-- the entry of one that moves data names its blocks: the bits of its flags lie above those of their number
 blocks_below : (a b : Bool) (n : ℕ) → n < 65536 → (n + ((if a then 2 ^ 30 else 0) + (if b then 2 ^ 31 else 0))) % 65536 ≡ n
 blocks_below true true n few = omega (arith, few)
 blocks_below true false n few = omega (arith, few)
 blocks_below false true n few = omega (arith, few)
 blocks_below false false n few = omega (arith, few)
 
-pub entry_blocks : (cid : ℕ) (r : Request) (sgl1 : List ℕ) → IsGood r → block_number (io_entry cid r sgl1) ≡ r.blocks
-entry_blocks cid r sgl1 good =
-    let some = some_blocks r.kind r.blocks r.pieces good in
+pub entry_blocks : (cid : ℕ) (r : Request) (sgl1 : List ℕ) → IsGood r → moves_data r.kind ≡ true → block_number (io_entry cid r sgl1) ≡ r.blocks
+entry_blocks cid r sgl1 good moves =
+    let some = some_blocks r.kind r.blocks r.pieces good moves in
     let few = few_blocks r.kind r.blocks r.pieces good in
     omega (arith, blocks_below r.flags.force_unit_access r.flags.limited_retry (r.blocks - 1) (omega (arith, some, few)), some)
 
@@ -280,7 +355,7 @@ joined_fit (part ∷ parts) fits =
     subst (All FitsPart) (sym (from_list part parts)) (from_fit part parts (All-head FitsPart part parts fits) (All-tail FitsPart part parts fits))
 
 pub built_drafts_spell : ((s : ℕ) → LaidChainsSpell s) → BuiltDraftsSpell
-built_drafts_spell law d entry h fits e = λ m held.
+built_drafts_spell law d entry h fits e = λ moves m held.
     let enough : data_count d.request.pieces ≤ length (numbers_of d.data_pages) = omega (arith, length-map d.data_pages (λ page. page.0), h.pieces_have_pages) in
     let laid_there : laid (draft_segments d) d.chain_pages ≡ d.chain_pages = ap (λ (x : DraftContents). x.chain_pages) (is_built d d.entry entry e h.built) in
     let few : length (draft_segments d) ≤ length d.chain_pages = omega (arith, segments_few d.segment (numbers_of d.chain_pages) (draft_parts d), length-map d.chain_pages (λ page. page.0)) in
@@ -288,7 +363,7 @@ built_drafts_spell law d entry h fits e = λ m held.
     (record {
       low = h.low;
       high = h.high;
-      some = some_parts d.request (numbers_of d.data_pages) h.good enough;
+      some = some_parts d.request (numbers_of d.data_pages) h.good moves enough;
       needed = length-map d.chain_pages (λ page. page.0) ∙ h.chain_has_pages;
     })
     (record {

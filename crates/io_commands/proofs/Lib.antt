@@ -3,3 +3,4 @@ pub mod Fewest
 pub mod Padding
 pub mod Lending
 pub mod Comparing
+pub mod Pointers

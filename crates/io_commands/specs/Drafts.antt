@@ -1,10 +1,10 @@
 -- Drafts: a command that is being prepared outside the store.
-use Rattle.std.specs.Prelude.{◌≡◌, ◌≤◌, ◌<◌, ◌+◌, ◌*◌, ◌-◌, ◌/◌, ◌%◌, ◌^◌, ℕ, Option, None, Some, List, [], ◌∷◌, length, All}
+use Rattle.std.specs.Prelude.{◌≡◌, ◌≤◌, ◌<◌, ◌+◌, ◌*◌, ◌-◌, ◌/◌, ◌%◌, ◌^◌, ℕ, true, if◌then◌else◌, replicate, Option, None, Some, List, [], ◌∷◌, length, All}
 use Rattle.sgl_descriptor.specs.{Spelling.spelling, declared.{Descriptor.Descriptor, Part.Part}}
 use Rattle.sgl_chain.specs.{Chains.{pages_needed, first_of, segments_on, segment_bytes}, Spells.{Spells, Holds}}
 use Rattle.page_memory.specs.{Memory.Memory, Pages.with_bytes}
 use Rattle.entry_codec.specs.declared.submission.SubEntry.{SubEntry}
-use Rattle.io_commands.specs.{Asked.Request, DataBytes.PagesOut, Requests.{opcode_of, flag_bits, data_count, joined_parts, FitsRequest}, Values.{numbers_of, IsGood}}
+use Rattle.io_commands.specs.{Asked.Request, DataBytes.PagesOut, Requests.{opcode_of, flag_bits, moves_data, data_count, joined_parts, FitsRequest}, Values.{numbers_of, IsGood}, declared.request.Kind.Kind}
 
 -- a draft: its pages with their bytes, one for each data piece and those of the chain, and its entry once it is built
 pub record DraftContents : Type 0 where
@@ -16,17 +16,21 @@ pub record DraftContents : Type 0 where
   pub segment : ℕ
   pub entry : Option SubEntry
 
+-- the bytes of an entry's data pointer: its first descriptor's where data moves, and zeros where none does
+abbrev pub pointer_of : Kind → List ℕ → List ℕ
+pointer_of kind sgl1 = if moves_data kind then sgl1 else replicate 16 0
+
 -- the entry that the driver sends for a request, with its first descriptor's bytes
 abbrev pub io_entry : ℕ → Request → List ℕ → SubEntry
 io_entry cid request sgl1 =
     record {
       opcode = opcode_of request.kind;
       fuse = 0;
-      psdt = 1;
+      psdt = if moves_data request.kind then 1 else 0;
       cid = cid;
       nsid = request.nsid;
       mptr = 0;
-      sgl1 = sgl1;
+      sgl1 = pointer_of request.kind sgl1;
       cdw10 = request.slba % 4294967296;
       cdw11 = request.slba / 4294967296;
       cdw12 = request.blocks - 1 + flag_bits request.flags;
@@ -39,7 +43,7 @@ io_entry cid request sgl1 =
 abbrev pub draft_parts : DraftContents → List Part
 draft_parts d = joined_parts d.request.pieces (numbers_of d.data_pages)
 
--- the descriptor that its entry holds, and the segments of its chain
+-- the descriptor that its entry holds where it moves data, and the segments of its chain
 abbrev pub draft_first : DraftContents → Descriptor
 draft_first d = first_of d.segment (numbers_of d.chain_pages) (draft_parts d)
 
@@ -82,9 +86,9 @@ abbrev pub HoldsPages : Memory → PagesOut → Type 0
 HoldsPages m [] = Unit {0}
 HoldsPages m (page ∷ pages) = Holds m (4096 * page.0) page.1 × HoldsPages m pages
 
--- Wherever a draft's chain pages stand in a memory, the descriptor of its entry spells its parts.
+-- Wherever the chain pages of a draft that moves data stand in a memory, the descriptor of its entry spells its parts.
 abbrev pub SpellsItsParts : DraftContents → Type 0
-SpellsItsParts d = (m : Memory) → HoldsPages m d.chain_pages → Spells m (draft_first d) (draft_parts d)
+SpellsItsParts d = moves_data d.request.kind ≡ true → (m : Memory) → HoldsPages m d.chain_pages → Spells m (draft_first d) (draft_parts d)
 
 -- The numbers of a draft's request and of its pages fit their types.
 pub record FitsDraft (d : DraftContents) : Type 0 where

@@ -13,6 +13,7 @@ use Rattle.sgl_descriptor.specs.declared.Direction.{Direction, TheVariants.Sourc
 use Rattle.io_commands.specs.{Requests.direction_of, declared.request.Kind.{Kind, TheVariants.{Read, Write, Compare}}}
 use Rattle.controller_walk.specs.Walks as walks
 
+-- the commands that the controller has
 abbrev pub kind_of_opcode : ℕ → Option Kind
 kind_of_opcode opcode = first_passing ((opcode == WRITE, Write) ∷ (opcode == READ, Read) ∷ (opcode == COMPARE, Compare) ∷ [])
 
@@ -62,8 +63,7 @@ NoFaultIsPassing = (blocks : ℕ) (e : SubEntry) → (io_fault blocks e ≡ None
 
 abbrev pub first_bytes : List ℕ → SubEntry → Option Kind → List ℕ
 first_bytes image e (Some Read) = blocks_at image (first_block e) (block_number e)
-first_bytes image e (Some Write) = replicate (need_of_entry e) 0
-first_bytes image e (Some Compare) = replicate (need_of_entry e) 0
+first_bytes image e (Some kind) = replicate (need_of_entry e) 0
 first_bytes image e None = []
 
 abbrev pub bytes_after_check : List ℕ → SubEntry → Option Status → List ℕ
@@ -133,18 +133,14 @@ IsJob job = IsJobBy job.blocks job.entry job.bytes job.verdict job.walk
 
 -- how a command ends whose data was moved: a Compare fails where a byte differs
 abbrev pub status_by : List ℕ → SubEntry → List ℕ → Option Kind → Status
-status_by image e bytes None = SUCCESS
-status_by image e bytes (Some Read) = SUCCESS
-status_by image e bytes (Some Write) = SUCCESS
 status_by image e bytes (Some Compare) =
     if bytes_eq (blocks_at image (first_block e) (block_number e)) bytes then SUCCESS else COMPARE_FAILURE
+status_by image e bytes kind = SUCCESS
 
 -- the image behind it: a Write puts its bytes over its blocks
 abbrev pub image_by : List ℕ → SubEntry → List ℕ → Option Kind → List ℕ
-image_by image e bytes None = image
-image_by image e bytes (Some Read) = image
 image_by image e bytes (Some Write) = with_blocks image (first_block e) bytes
-image_by image e bytes (Some Compare) = image
+image_by image e bytes kind = image
 
 abbrev pub status_after : List ℕ → SubEntry → List ℕ → Option Status → Status
 status_after image e bytes None = SUCCESS

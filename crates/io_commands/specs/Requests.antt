@@ -4,21 +4,37 @@ use Rattle.std.specs.Prelude.{ℕ, ◌+◌, ◌*◌, ◌^◌, ◌<◌, ◌==◌,
 use Rattle.controller_walk.specs.Units.{first_passing}
 use Rattle.sgl_descriptor.specs.declared.{Direction.{Direction, TheVariants.{Destination, Source}}, Part.Part}
 use Rattle.sgl_chain.specs.Joining.{joined}
-use Rattle.entry_codec.specs.declared.io_opcode.TheConstants.{READ, WRITE, COMPARE}
-use Rattle.io_commands.specs.{Asked.Request, declared.request.{Flags.Flags, Kind.{Kind, TheVariants.{Read, Write, Compare}}, Piece.{Piece, TheVariants.{Data, Bucket}}}}
+use Rattle.entry_codec.specs.declared.io_opcode.TheConstants.{READ, WRITE, COMPARE, WRITE_ZEROES, VERIFY, FLUSH}
+use Rattle.io_commands.specs.{Asked.Request, declared.request.{Flags.Flags, Kind.{Kind, TheVariants.{Read, Write, Compare, WriteZeroes, Verify, Flush}}, Piece.{Piece, TheVariants.{Data, Bucket}}}}
 use Rattle.io_commands.specs.declared.request.RequestFault.{RequestFault, TheVariants.{TooManyPieces, EmptyPiece, CrossesPage, BadCount, LengthMismatch}}
 use Rattle.sgl_descriptor.specs.declared.Part.TheVariants as part
 
--- a Read brings data to the host's pages, a Write and a Compare take it from them
+-- a Read, a Write and a Compare move data between blocks and the host's pages, and the others move none
+abbrev pub moves_data : Kind → Bool
+moves_data Read = true
+moves_data Write = true
+moves_data Compare = true
+moves_data WriteZeroes = false
+moves_data Verify = false
+moves_data Flush = false
+
+-- all but a Flush name blocks
+abbrev pub names_blocks : Kind → Bool
+names_blocks Flush = false
+names_blocks kind = true
+
+-- a Read brings data to the host's pages, a Write and a Compare take it from them; of one that moves none it says nothing
 abbrev pub direction_of : Kind → Direction
 direction_of Read = Destination
-direction_of Write = Source
-direction_of Compare = Source
+direction_of kind = Source
 
 abbrev pub opcode_of : Kind → ℕ
 opcode_of Read = READ
 opcode_of Write = WRITE
 opcode_of Compare = COMPARE
+opcode_of WriteZeroes = WRITE_ZEROES
+opcode_of Verify = VERIFY
+opcode_of Flush = FLUSH
 
 -- the bits of a command's flags in CDW12: Force Unit Access is bit 30, Limited Retry bit 31
 abbrev pub flag_bits : Flags → ℕ
@@ -36,15 +52,23 @@ abbrev pub is_data : Piece → Bool
 is_data (Data offset len) = true
 is_data (Bucket len) = false
 
--- how many of a command's bytes a piece is: a bucket counts where data comes to the host alone
+-- how many of a command's bytes a piece is: a bucket is passed over where data goes from the host
 abbrev pub counted_length : Kind → Piece → ℕ
 counted_length kind (Data offset len) = len
-counted_length Read (Bucket len) = len
 counted_length Write (Bucket len) = 0
 counted_length Compare (Bucket len) = 0
+counted_length kind (Bucket len) = len
 
 abbrev pub counted_lengths : Kind → List Piece → ℕ
 counted_lengths kind pieces = sum_by (counted_length kind) pieces
+
+-- how many bytes the pieces of a command of so many blocks are together: one that moves no data has no piece
+abbrev pub need_of : Kind → ℕ → ℕ
+need_of kind blocks = if moves_data kind then 512 * blocks else 0
+
+-- a command moves 1 to 2,048 blocks, and a Flush none
+abbrev pub is_count : Kind → ℕ → Bool
+is_count kind blocks = if names_blocks kind then not ((blocks == 0) || nat_lt 2048 blocks) else blocks == 0
 
 -- the data pages that pieces take, one for each data piece
 abbrev pub data_count : List Piece → ℕ
@@ -68,8 +92,8 @@ fault_of kind blocks pieces =
     (nat_lt 1024 (length pieces), TooManyPieces)
     ∷ (list_any is_empty_piece pieces, EmptyPiece)
     ∷ (list_any crosses_page pieces, CrossesPage)
-    ∷ ((blocks == 0) || nat_lt 2048 blocks, BadCount)
-    ∷ (not (counted_lengths kind pieces == 512 * blocks), LengthMismatch)
+    ∷ (not (is_count kind blocks), BadCount)
+    ∷ (not (counted_lengths kind pieces == need_of kind blocks), LengthMismatch)
     ∷ [])
 
 -- The numbers of a piece, and those of a request, fit their types.

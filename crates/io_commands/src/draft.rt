@@ -1,8 +1,8 @@
 //! A command that is being prepared, outside the store.
 
-ghost use Rattle.std.specs.Prelude.{◌≡◌, ◌≢◌, ◌<◌, ◌≤◌, ◌+◌, ◌-◌, ◌++◌, ◌↔◌, length, replicate, sum_by, Err, IfOk, OnOk, OnErr, None, Some};
+ghost use Rattle.std.specs.Prelude.{◌≡◌, ◌≢◌, ◌<◌, ◌≤◌, ◌+◌, ◌-◌, ◌++◌, ◌↔◌, true, false, length, replicate, sum_by, Err, IfOk, OnOk, OnErr, None, Some};
 ghost use Rattle.io_commands.specs.declared.request.Kind.TheVariants.{Read};
-ghost use Rattle.io_commands.specs.Requests.{joined_parts, FitsRequest};
+ghost use Rattle.io_commands.specs.Requests.{joined_parts, moves_data, FitsRequest};
 ghost use Rattle.io_commands.specs.DataBytes.{data_length, filled};
 ghost use Rattle.io_commands.specs.Values.{IsGood, numbers_of, data_part, chain_part};
 ghost use Rattle.io_commands.specs.Least.{pages_with};
@@ -222,13 +222,28 @@ impl<A: Allocator> Draft<A> {
         self.pages[i].bytes_mut()
     }
 
-    /// Lays the chain of the command's parts into the draft's own pages, and makes its entry. A second build lays the same
-    /// bytes. It takes no lock and reaches no store.
+    /// Lays the chain of the command's parts into the draft's own pages, and makes its entry; a command that moves no data has no
+    /// chain. A second build lays the same bytes. It takes no lock and reaches no store.
     ///
     /// # Errors
     ///
     /// Where memory is refused; the draft is then as it was.
     pub fn build<B: Allocator + Clone>(&mut self, alloc: B) -> Result<(), AllocError>
+        ensures built { OnOk result (self.new ≡ built self.old) }
+        ensures spells { OnOk result (SpellsItsParts self.new) }
+        ensures refused { OnErr result (self.new ≡ self.old) }
+    {
+        if self.request.kind.moves_data() {
+            self.build_with_data(alloc)
+        } else {
+            self.build_without_data();
+            Ok(())
+        }
+    }
+
+    /// Lays the chain of a command that moves data, and makes its entry.
+    fn build_with_data<B: Allocator + Clone>(&mut self, alloc: B) -> Result<(), AllocError>
+        requires moves { moves_data self.old.request.kind ≡ true }
         ensures built { OnOk result (self.new ≡ built self.old) }
         ensures spells { OnOk result (SpellsItsParts self.new) }
         ensures refused { OnErr result (self.new ≡ self.old) }
@@ -239,6 +254,15 @@ impl<A: Allocator> Draft<A> {
         let first = chain.first().write();
         self.entry = Some(io_entry(self.cid, &self.request, first));
         Ok(())
+    }
+
+    /// Makes the entry of a command that moves no data.
+    fn build_without_data(&mut self)
+        requires still { moves_data self.old.request.kind ≡ false }
+        ensures built { self.new ≡ built self.old }
+        ensures spells { SpellsItsParts self.new }
+    {
+        self.entry = Some(io_entry(self.cid, &self.request, [0; 16]));
     }
 
     /// What it was made of, with the pages as they are now.
@@ -267,25 +291,25 @@ impl<A: Allocator> Draft<A> {
     }
 }
 
-/// The entry that the driver sends for a request (NVM Command Set 1.0, Read, Write and Compare): SGLs in the data pointer
-/// (PSDT 01b), the request's namespace, the first block in CDW10 and CDW11, in CDW12 the number of blocks less one and the
-/// flags; all else zero (own).
+/// The entry that the driver sends for a request (NVM Command Set Specification 1.0, section 3.2): SGLs in the data pointer
+/// (PSDT 01b) where data moves, the request's namespace, the first block in CDW10 and CDW11, in CDW12 the number of blocks
+/// less one, if it names any, and the flags; all else zero (own).
 fn io_entry<A: Allocator>(cid: u16, request: &Request<A>, sgl1: [u8; 16]) -> SubEntry
-    requires some { 0 < request.now.blocks }
     requires few { request.now.blocks ≤ 2048 }
     ensures { result ≡ spec_io_entry cid request.now sgl1 }
 {
+    let moves_data = request.kind.moves_data();
     SubEntry {
         opcode: request.kind.opcode(),
         fuse: 0,
-        psdt: 1,
+        psdt: if moves_data { 1 } else { 0 },
         cid,
         nsid: request.nsid,
         mptr: 0,
-        sgl1,
+        sgl1: if moves_data { sgl1 } else { [0; 16] },
         cdw10: (request.slba % (1 << 32)) as u32,
         cdw11: (request.slba >> 32) as u32,
-        cdw12: request.blocks - 1 + request.flags.bits(),
+        cdw12: request.blocks.saturating_sub(1) + request.flags.bits(),
         cdw13: 0,
         cdw14: 0,
         cdw15: 0,

@@ -141,8 +141,7 @@ impl<A: Allocator> Finished<A> {
         self.pages[i].bytes()
     }
 
-    /// The bytes of a Read's data pieces, one after the other, as they stand in its pages; nothing for a Write or a
-    /// Compare.
+    /// The bytes of a Read's data pieces, one after the other, as they stand in its pages; nothing for another command.
     ///
     /// # Errors
     ///
@@ -162,7 +161,7 @@ impl<A: Allocator> Finished<A> {
                 )?;
                 Ok(bytes)
             }
-            Kind::Write | Kind::Compare => Ok(Vec::new(alloc)),
+            _ => Ok(Vec::new(alloc)),
         }
     }
 
@@ -175,7 +174,7 @@ impl<A: Allocator> Finished<A> {
                 let data = self.request.pieces.data_pages();
                 holds(self.request.pieces.as_slice(), &self.pages[..data], bytes)
             }
-            Kind::Write | Kind::Compare => bytes.is_empty(),
+            _ => bytes.is_empty(),
         }
     }
 

@@ -1,10 +1,10 @@
 //! The controller's side: a command of an I/O queue from its fetch to its completion.
 
-ghost use Rattle.std.specs.Prelude.{◌≡◌, ◌<◌, ◌≤◌, ◌+◌, ◌*◌, ◌-◌, ◌^◌, ◌++◌, ◌∷◌, [], length, replicate, ℕ, IsSome, IfOk, OnErr, None, Some};
+ghost use Rattle.std.specs.Prelude.{◌≡◌, ◌<◌, ◌≤◌, ◌+◌, ◌*◌, ◌-◌, ◌^◌, ◌++◌, ◌∷◌, [], length, replicate, ℕ, true, false, IsSome, IfOk, OnErr, None, Some};
 ghost use Rattle.std.specs.Result.{result_err};
 ghost use Rattle.block_image.specs.Blocks.{block_count};
 ghost use Rattle.controller_walk.specs.Walks.{DoesFirst, LeavesRest};
-ghost use Rattle.io_commands.specs.Requests.{opcode_of};
+ghost use Rattle.io_commands.specs.Requests.{moves_data, opcode_of};
 ghost use Rattle.io_commands.specs.declared.request.Kind.{Kind};
 ghost use Rattle.io_commands.specs.Jobs.{IsJob, kind_of_opcode, first_block as spec_first_block, block_number as spec_block_number, need_of_entry, direction_of_entry, io_fault, NoFaultIsPassing, first_bytes as spec_first_bytes, bytes_after_check, BeginsWalk, job_course, left_of_walk, verdict_of, finished_status, finished_image, status_after, image_after, entry_over};
 
@@ -39,7 +39,7 @@ impl<A: Allocator> Model for Job<A> {
     ghost invariant = { λ job. IsJobBy job.blocks job.entry job.bytes.items job.verdict job.walk };
 }
 
-/// The command of an opcode, if it is a Read, a Write or a Compare.
+/// The command of an opcode that the controller has: a Read, a Write or a Compare.
 pub fn kind_of(opcode: u8) -> Option<Kind>
     ensures { result ≡ kind_of_opcode opcode }
 {
@@ -110,7 +110,7 @@ pub fn first_bytes<A: Allocator, B: Allocator>(
     let number = block_number(entry);
     match kind {
         Kind::Read => Vec::from_slice(alloc, image.blocks_from(first_block(entry), number)),
-        Kind::Write | Kind::Compare => Ok(vec![in alloc; 0; BLOCK_SIZE * number as usize]?),
+        _ => Ok(vec![in alloc; 0; BLOCK_SIZE * number as usize]?),
     }
 }
 
@@ -271,9 +271,10 @@ pub fn finish_job<A: Allocator, B: Allocator>(job: Job<A>, image: &mut Image<B>)
     status
 }
 
-/// An opcode is the command whose opcode it is, and no other opcode is a command.
+/// The controller has each command that moves data by its opcode, and no other.
 pub fn laws_of_opcodes()
-    ensures undone { (kind : Kind) → kind_of_opcode (opcode_of kind) ≡ Some kind }
+    ensures undone { (kind : Kind) → moves_data kind ≡ true → kind_of_opcode (opcode_of kind) ≡ Some kind }
+    ensures unknown { (kind : Kind) → moves_data kind ≡ false → kind_of_opcode (opcode_of kind) ≡ None }
     ensures only { (opcode : ℕ) (kind : Kind) → kind_of_opcode opcode ≡ Some kind → opcode ≡ opcode_of kind }
 {}
 

@@ -3,7 +3,7 @@
 ghost use Rattle.std.specs.Prelude.{◌≡◌, ◌≤◌, ◌∷◌, ◌++◌, [], length, sum_by, All, IfOk, OnOk, OnErr, Ok};
 ghost use Rattle.std.specs.Result.{result_err};
 ghost use Rattle.io_commands.specs.DataBytes.{data_length};
-ghost use Rattle.io_commands.specs.Requests.{direction_of, opcode_of, is_empty_piece, crosses_page as spec_crosses_page, is_data as spec_is_data, counted_length, data_count, fault_of, flag_bits, FitsPiece, FitsRequest};
+ghost use Rattle.io_commands.specs.Requests.{moves_data as spec_moves_data, names_blocks as spec_names_blocks, direction_of, opcode_of, need_of, is_count, is_empty_piece, crosses_page as spec_crosses_page, is_data as spec_is_data, counted_length, data_count, fault_of, flag_bits, FitsPiece, FitsRequest};
 
 use entry_codec::io_opcode;
 use sgl_descriptor::Direction;
@@ -17,7 +17,7 @@ pub const MAX_PIECES: usize = 1_024;
 /// The most blocks that a command moves (own).
 pub const MAX_COMMAND_BLOCKS: u32 = 2_048;
 
-/// Which I/O command (NVM Command Set 1.0, opcodes).
+/// Which I/O command (NVM Command Set Specification 1.0, section 3.2).
 #[derive(Clone, Copy, Debug, PartialEq, Eq)]
 pub enum Kind {
     /// Blocks come to the host's pages.
@@ -26,16 +26,36 @@ pub enum Kind {
     Write,
     /// Blocks are compared with data of the host's pages.
     Compare,
+    /// Blocks become zeros. It moves no data.
+    WriteZeroes,
+    /// Blocks are read and checked, and not brought. It moves no data.
+    Verify,
+    /// What was written goes to non-volatile media. It names no blocks, and moves no data.
+    Flush,
 }
 
 impl Kind {
-    /// Which way the data goes, as the host's pages see it.
+    /// Whether data goes between blocks and the host's pages.
+    pub fn moves_data(self) -> bool
+        ensures { result ≡ spec_moves_data self }
+    {
+        matches!(self, Kind::Read | Kind::Write | Kind::Compare)
+    }
+
+    /// Whether it names blocks.
+    pub fn names_blocks(self) -> bool
+        ensures { result ≡ spec_names_blocks self }
+    {
+        !matches!(self, Kind::Flush)
+    }
+
+    /// Which way the data goes, as the host's pages see it; [`Direction::Source`] where it moves none.
     pub fn direction(self) -> Direction
         ensures { result ≡ direction_of self }
     {
         match self {
             Kind::Read => Direction::Destination,
-            Kind::Write | Kind::Compare => Direction::Source,
+            _ => Direction::Source,
         }
     }
 
@@ -47,11 +67,37 @@ impl Kind {
             Kind::Read => io_opcode::READ,
             Kind::Write => io_opcode::WRITE,
             Kind::Compare => io_opcode::COMPARE,
+            Kind::WriteZeroes => io_opcode::WRITE_ZEROES,
+            Kind::Verify => io_opcode::VERIFY,
+            Kind::Flush => io_opcode::FLUSH,
+        }
+    }
+
+    /// Whether a command has so many blocks: 1 to 2,048, and a Flush none.
+    fn has_count(self, blocks: u32) -> bool
+        ensures { result ≡ is_count self blocks }
+    {
+        if self.names_blocks() {
+            blocks != 0 && blocks <= MAX_COMMAND_BLOCKS
+        } else {
+            blocks == 0
+        }
+    }
+
+    /// How many bytes the pieces of a command of so many blocks are together.
+    fn need(self, blocks: u32) -> u64
+        ensures { result ≡ need_of self blocks }
+    {
+        if self.moves_data() {
+            512 * u64::from(blocks)
+        } else {
+            0
         }
     }
 }
 
-/// The flags of a command (NVM Command Set Specification 1.0, Read, Write and Compare, CDW12).
+/// The flags of a command that names blocks (NVM Command Set Specification 1.0, Read, Write, Compare, Write Zeroes and
+/// Verify, CDW12).
 #[derive(Clone, Copy, Debug, PartialEq, Eq)]
 pub struct Flags {
     /// The command ends once its data is in non-volatile media, or comes from there (FUA, bit 30).
@@ -131,13 +177,13 @@ impl Piece {
         }
     }
 
-    /// How many bytes of a command of this kind it is: a bucket counts for a Read alone.
+    /// How many bytes of a command of this kind it is: a Write and a Compare pass a bucket over.
     pub fn counted(self, kind: Kind) -> u32
         ensures { result ≡ counted_length kind self }
     {
         match (self, kind) {
-            (Piece::Data { len, .. }, _) | (Piece::Bucket { len }, Kind::Read) => len,
             (Piece::Bucket { .. }, Kind::Write | Kind::Compare) => 0,
+            (Piece::Data { len, .. } | Piece::Bucket { len }, _) => len,
         }
     }
 }
@@ -277,16 +323,17 @@ pub enum RequestFault {
     /// A data piece passes the end of its page.
     #[error("a data piece passes the end of its page")]
     CrossesPage,
-    /// There are no blocks, or more than 2,048.
-    #[error("a command moves 1 to 2,048 blocks")]
+    /// There are no blocks, or more than 2,048; or a Flush has blocks.
+    #[error("a command has 1 to 2,048 blocks, and a Flush none")]
     BadCount,
-    /// The pieces that count are not 512 bytes a block.
+    /// The pieces that count are not 512 bytes a block; or a command that moves no data has a piece.
     #[error("the lengths of the pieces are not 512 bytes a block")]
     LengthMismatch,
 }
 
-/// What a host asks for: `blocks` blocks of 512 bytes from `slba` on, and the pieces of memory that take part. A host
-/// writes it as [`Request`]; contracts see the pieces as a list, whatever holds them.
+/// What a host asks for: `blocks` blocks of 512 bytes from `slba` on, and the pieces of memory that take part, none where
+/// no data moves. A Flush has no blocks, and its `slba` and flags, which the standard reserves, are to be 0 and
+/// [`Flags::NONE`]. A host writes it as [`Request`]; contracts see the pieces as a list, whatever holds them.
 #[derive(Debug, Drop)]
 pub struct RequestOf<P> {
     /// Which command.
@@ -382,10 +429,10 @@ impl<A: Allocator> Request<A> {
         if crosses {
             return Err(RequestFault::CrossesPage);
         }
-        if self.blocks == 0 || self.blocks > MAX_COMMAND_BLOCKS {
+        if !self.kind.has_count(self.blocks) {
             return Err(RequestFault::BadCount);
         }
-        if counted != 512 * u64::from(self.blocks) {
+        if counted != self.kind.need(self.blocks) {
             return Err(RequestFault::LengthMismatch);
         }
         Ok(())

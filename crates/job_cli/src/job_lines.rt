@@ -20,6 +20,9 @@ pub(crate) fn kind_name(kind: Kind) -> &'static str
         Kind::Read => "read",
         Kind::Write => "write",
         Kind::Compare => "compare",
+        Kind::WriteZeroes => "write_zeroes",
+        Kind::Verify => "verify",
+        Kind::Flush => "flush",
     }
 }
 

@@ -91,8 +91,8 @@ fn job_bytes(alloc: Global, kind: Kind, words: &mut Words<'_>) -> Result<Bytes, 
     ensures { MatchResult result (λ b. data_words kind words.old ≡ Ok (b, words.new)) (IsErrorOf (data_words kind words.old)) }
 {
     match kind {
-        Kind::Read => Ok(Bytes::from_vec(Vec::new(alloc))),
         Kind::Write | Kind::Compare => words.bytes(alloc),
+        _ => Ok(Bytes::from_vec(Vec::new(alloc))),
     }
 }
 

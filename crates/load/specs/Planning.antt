@@ -6,10 +6,9 @@ use Rattle.load.specs.{Content.written, Picking.ArePicked, declared.{content.Con
 use Rattle.io_commands.specs.declared.request.Kind.TheVariants as kind
 
 -- a Write makes one more of the writes of a slot, as far as a number of 32 bits goes
-abbrev pub generation_after : Kind → ℕ → ℕ
-generation_after kind.Read before = before
+unfoldable pub generation_after : Kind → ℕ → ℕ
 generation_after kind.Write before = min (before + 1) (2 ^ 32 - 1)
-generation_after kind.Compare before = before
+generation_after k before = before
 
 -- the command for a slot, by how often slots were written
 abbrev pub planned_at : List ℕ → ℕ → Kind → Planned
@@ -37,11 +36,10 @@ full_pieces (suc many) pieces = Data 0 4096 ∷ full_pieces many pieces
 abbrev pub pieces_of : ℕ → List Piece
 pieces_of blocks = full_pieces ((blocks - 1) / 8) (Data 0 (512 * (blocks - 8 * ((blocks - 1) / 8))) ∷ [])
 
--- the data of a Write; a Read has none
+-- the data of a Write; another command has none
 abbrev pub data_of : Layout → ℕ → Planned → Kind → List ℕ
-data_of layout seed planned kind.Read = []
 data_of layout seed planned kind.Write = written layout seed planned.slot planned.generation
-data_of layout seed planned kind.Compare = []
+data_of layout seed planned k = []
 
 -- what a command's data are made of, and what they are compared with, where Reads are compared
 pub record TaskContents : Type 0 where

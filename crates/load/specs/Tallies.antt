@@ -27,11 +27,10 @@ both a b = record {
 abbrev pub is_good : Tally → Bool
 is_good tally = (tally.refused == 0) && ((tally.failed == 0) && (tally.differ == 0))
 
--- what a Read must bring; of a Write nothing is compared
+-- what a Read must bring; of another command nothing is compared
 abbrev pub wanted_by : Kind → List ℕ → Option (List ℕ)
 wanted_by kind.Read bytes = Some bytes
-wanted_by kind.Write bytes = None
-wanted_by kind.Compare bytes = None
+wanted_by k bytes = None
 
 -- what a command must bring, where that is compared
 abbrev pub wanted_of : Layout → Option Content → Planned → Option (List ℕ)

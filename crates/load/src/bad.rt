@@ -49,6 +49,9 @@ impl fmt::Display for Bad {
             Kind::Read => "read",
             Kind::Write => "write",
             Kind::Compare => "compare",
+            Kind::WriteZeroes => "write_zeroes",
+            Kind::Verify => "verify",
+            Kind::Flush => "flush",
         };
         let Bad {
             slba,

@@ -40,7 +40,7 @@ impl Measured {
             }
             match planned.kind {
                 Kind::Read => self.reads.add(*nanos),
-                Kind::Write | Kind::Compare => self.writes.add(*nanos),
+                _ => self.writes.add(*nanos),
             }
         }
     }

@@ -23,6 +23,7 @@ pub(crate) struct Planned {
 }
 
 /// A command for a slot.
+#[tactic(auto, unfolding(crate::specs::Planning::generation_after))]
 pub(crate) fn plan_one(generations: &[u32], slot: usize, kind: Kind) -> Planned
     requires { slot < length generations.now }
     ensures { result ≡ planned_at generations.now slot kind }
@@ -30,7 +31,7 @@ pub(crate) fn plan_one(generations: &[u32], slot: usize, kind: Kind) -> Planned
     let before = generations[slot];
     let generation = match kind {
         Kind::Write => before.saturating_add(1),
-        Kind::Read | Kind::Compare => before,
+        _ => before,
     };
     Planned {
         slot,

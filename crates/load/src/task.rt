@@ -83,7 +83,7 @@ impl<'a> Task<'a> {
         } = self.planned;
         match kind {
             Kind::Write => written_slot(alloc, self.layout, self.seed, slot, generation),
-            Kind::Read | Kind::Compare => Ok(Vec::new(alloc)),
+            _ => Ok(Vec::new(alloc)),
         }
     }
 

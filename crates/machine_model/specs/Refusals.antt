@@ -8,7 +8,7 @@ use Rattle.entry_codec.specs.{Completion.completion_of, Status.is_success, decla
 use Rattle.entry_codec.specs.declared.submission.SubEntry.{SubEntry}
 use Rattle.admin_commands.specs.{Entries.named_queue, Verdicts.is_live as is_running, declared.AdminKind.TheVariants.{DeleteSq, DeleteCq, CreateCq, CreateSq}}
 use Rattle.io_commands.specs.{Asked.Request, Requests.fault_of, Values.numbers_of, declared.request.{Flags.Flags, Kind.Kind}}
-use Rattle.io_commands.specs.declared.request.{Kind.TheVariants.{Read, Write, Compare}, Piece.{Piece, TheVariants.{Data, Bucket}}, RequestFault.RequestFault}
+use Rattle.io_commands.specs.declared.request.{Kind.TheVariants.{Read, Write, Compare, WriteZeroes, Verify, Flush}, Piece.{Piece, TheVariants.{Data, Bucket}}, RequestFault.RequestFault}
 use Rattle.controller_walk.specs.Units.{first_passing}
 use Rattle.queue_pair.specs.{Memory.{with_phase, half_pages}, Slots.{is_full, moved}}
 use Rattle.machine_model.specs.Events as events
@@ -140,6 +140,9 @@ abbrev pub same_kind : Kind → Kind → Bool
 same_kind Read Read = true
 same_kind Write Write = true
 same_kind Compare Compare = true
+same_kind WriteZeroes WriteZeroes = true
+same_kind Verify Verify = true
+same_kind Flush Flush = true
 same_kind a b = false
 
 abbrev pub same_flags : Flags → Flags → Bool

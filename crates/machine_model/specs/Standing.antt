@@ -5,7 +5,7 @@ use Rattle.sgl_descriptor.specs.{Spelling.{spelling, descriptor_of}, declared.De
 use Rattle.sgl_chain.specs.Spells.{Spells}
 use Rattle.controller_walk.specs.{Units.{units, verdict}, declared.walk.WalkState.TheVariants.End}
 use Rattle.entry_codec.specs.declared.submission.SubEntry.{SubEntry}
-use Rattle.io_commands.specs.{Asked.Request, Drafts.io_entry, Requests.{data_count, joined_parts, FitsRequest}, Values.IsGood}
+use Rattle.io_commands.specs.{Asked.Request, Drafts.io_entry, Requests.{data_count, joined_parts, moves_data, FitsRequest}, Values.IsGood}
 use Rattle.page_memory.specs.Pages.{Pages, byte_at}
 use Rattle.machine_model.specs.{After.course_of, Commands.{Work, Io, Management}, Reached.{only, on_pages, KeepsToPages}, Refusals.is_submitted}
 use Rattle.machine_model.specs.State.{State, ServedQueue, Record, Job, record_at}
@@ -25,11 +25,11 @@ pub record HasEntry (queues : List ServedQueue) (jobs : List Job) (q cid : ℕ) 
   pub unfetched : AllByRecursion (λ e. e.cid ≡ cid → e ≡ entry) (unfetched_at queues q)
   pub fetched : AllByRecursion (λ j. j.q ≡ q → j.entry.cid ≡ cid → j.entry ≡ entry) jobs
 
--- The command's chain pages spell its joined parts, whatever stands in other pages, from the descriptor of its entry.
+-- The chain pages of a command that moves data spell its joined parts, whatever stands in other pages, from the descriptor of its entry.
 pub record ListStands (m : Pages) (queues : List ServedQueue) (jobs : List Job) (r : Record) (request : Request) : Type 0 where
   pub first : Descriptor
   pub read : descriptor_of (spelling first) ≡ Some first
-  pub spells : Spells (only (on_pages r.chain_pages) (byte_at m)) first (joined_parts request.pieces r.data_pages)
+  pub spells : moves_data request.kind ≡ true → Spells (only (on_pages r.chain_pages) (byte_at m)) first (joined_parts request.pieces r.data_pages)
   pub entry : HasEntry queues jobs r.q r.cid (io_entry r.cid request (spelling first))
 
 abbrev pub StandsAs : Pages → List ServedQueue → List Job → Record → Work → Type 0
@@ -44,7 +44,7 @@ abbrev pub HasUnitLeft : State → Job → Type 0
 HasUnitLeft s j = (j.q == 0) ≡ false → j.verdict ≡ None → j.units_done < length (units (course_of s j))
 
 -- What stands for a job of an I/O queue: its command is submitted, its entry is that command's, and its walk keeps to the command's
--- pages, would end well, and has a unit left as long as there is no verdict.
+-- pages, would end well if it moves data, and has a unit left as long as there is no verdict.
 pub record JobStands (s : State) (j : Job) : Type 0 where
   pub command : Record
   pub request : Request
@@ -55,5 +55,5 @@ pub record JobStands (s : State) (j : Job) : Type 0 where
   pub list : ListStands s.memory s.controller.queues s.controller.jobs command request
   pub entry : j.entry ≡ io_entry command.cid request (spelling list.first)
   pub keeps : KeepsToPages command.chain_pages command.data_pages (course_of s j)
-  pub ends : verdict (course_of s j) ≡ End
+  pub ends : moves_data request.kind ≡ true → verdict (course_of s j) ≡ End
   pub unit_left : j.verdict ≡ None → j.units_done < length (units (course_of s j))

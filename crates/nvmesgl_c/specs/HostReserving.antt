@@ -1,11 +1,10 @@
 -- A reservation: the command, and its tag.
-use Rattle.std.specs.List.{list_any}
-use Rattle.std.specs.Prelude.{◌≡◌, ◌⊎◌, ℕ, Bool, true, false, Option, Some, None, Result, Ok, Err, List, map}
-use Rattle.io_commands.specs.{Asked.Request, declared.request.{Kind.Kind, TheConstants.Flags.NONE}}
+use Rattle.std.specs.Prelude.{◌≡◌, ◌⊎◌, ℕ, Option, Some, None, Result, Ok, Err, List}
+use Rattle.io_commands.specs.Asked.{Request}
 use Rattle.machine_model.specs.Script.{Table}
 use Rattle.host_bench.specs.{Calls.Does, Values.Reply}
-use Rattle.nvmesgl_c.specs.{HostAnswers.told, HostCalls.Refuses, HostCodes.code_of_reply, HostKept.{Kept, code_in}, HostTags.IsTagged, Requests.{is_no_piece, kind_of, looked_at, piece_of}}
-use Rattle.nvmesgl_c.specs.declared.{host.tagged.Tagged.Tagged, words.{answer.Answer.Answer, piece.CPiece.CPiece}}
+use Rattle.nvmesgl_c.specs.{HostAnswers.told, HostCalls.Refuses, HostCodes.code_of_reply, HostKept.{Kept, code_in}, HostTags.IsTagged, Requests.{asked_of, IsMade, looked_at}}
+use Rattle.nvmesgl_c.specs.declared.{host.tagged.Tagged.Tagged, words.{answer.Answer.Answer, asked.CRequest.CRequest, piece.CPiece.CPiece}}
 use Rattle.host_bench.specs.declared.call.Call.TheVariants as call
 use Rattle.host_bench.specs.declared.call.Reply.TheVariants as reply
 use Rattle.machine_model.specs.declared.words.Refusal.TheVariants as refusal
@@ -49,16 +48,13 @@ pub record SaysReserved (t : Kept) (q : ℕ) (request : Request) (tag code : ℕ
   pub code_is : code ≡ code_of_reply reply
   pub answer_is : answer ≡ told reply
 
--- a kind of command, where some piece is of no kind, and where each is of one: memory may be refused for the pieces
-abbrev pub ReservesPieces : Bool → Kind → Kept → ℕ → ℕ → ℕ → List CPiece → ℕ → ℕ → Answer → Kept → Type 0
-ReservesPieces true k t q slba blocks pieces tag code answer new = Refuses t 56 code answer new
-ReservesPieces false k t q slba blocks pieces tag code answer new =
-    SaysReserved t q (record { kind = k; nsid = 1; flags = NONE; slba = slba; blocks = blocks; pieces = map piece_of pieces }) tag code answer new ⊎ Refuses t 15 code answer new
+-- what was made of what C asks for, or its code
+abbrev pub ReservesMade : Result Request ℕ → Kept → ℕ → ℕ → ℕ → Answer → Kept → Type 0
+ReservesMade (Err cause) t q tag code answer new = Refuses t cause code answer new
+ReservesMade (Ok request) t q tag code answer new = SaysReserved t q request tag code answer new
 
-abbrev pub ReservesKind : Option Kind → Kept → ℕ → ℕ → ℕ → List CPiece → ℕ → ℕ → Answer → Kept → Type 0
-ReservesKind None t q slba blocks pieces tag code answer new = Refuses t 4 code answer new
-ReservesKind (Some k) t q slba blocks pieces tag code answer new = ReservesPieces (list_any is_no_piece pieces) k t q slba blocks pieces tag code answer new
-
--- a reservation of a command that has this tag; the tag 0 is none
-abbrev pub Reserves : Kept → ℕ → ℕ → ℕ → ℕ → List CPiece → ℕ → ℕ → Answer → Kept → Type 0
-Reserves t q number slba blocks pieces tag code answer new = ReservesKind (kind_of number) t q slba blocks (looked_at pieces) tag code answer new
+-- a reservation of what C asks for, which has this tag; the tag 0 is none
+pub record Reserves (t : Kept) (q : ℕ) (asked : CRequest) (pieces : List CPiece) (tag code : ℕ) (answer : Answer) (new : Kept) : Type 0 where
+  pub made : Result Request ℕ
+  pub is_made : IsMade (asked_of asked (looked_at pieces)) made
+  pub goes_on : ReservesMade made t q tag code answer new

@@ -14,9 +14,9 @@ is_accepted r = false
 
 -- the bytes that a command takes along
 abbrev pub bytes_for : Kind → List ℕ → Option (List ℕ)
-bytes_for kind.Read bytes = None
 bytes_for kind.Write bytes = Some bytes
 bytes_for kind.Compare bytes = Some bytes
+bytes_for k bytes = None
 
 abbrev pub submit_calls : ℕ → ℕ → List Call
 submit_calls q cid = call.Build q cid ∷ call.Submit q cid ∷ []

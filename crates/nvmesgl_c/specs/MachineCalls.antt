@@ -1,9 +1,8 @@
 -- What each call answers, and what it leaves of the bench that a handle keeps.
-use Rattle.std.specs.List.{list_any}
-use Rattle.std.specs.Prelude.{◌≡◌, ◌⊎◌, ◌<◌, ◌++◌, ℕ, Bool, true, false, Option, Some, None, Result, Ok, Err, List, length, drop, map, take}
-use Rattle.io_commands.specs.declared.request.{Kind.Kind, TheConstants.Flags.NONE}
-use Rattle.nvmesgl_c.specs.{Answers.nothing, MachineAnswers.told, MachineCodes.code_of_reply, MachineKept.{Kept, code_in}, Requests.{is_no_piece, kind_of, piece_of}, declared.words.answer.Answer.Answer}
-use Rattle.nvmesgl_c.specs.declared.words.piece.CPiece.{CPiece}
+use Rattle.std.specs.Prelude.{◌≡◌, ◌⊎◌, ◌<◌, ◌++◌, ℕ, Result, Ok, Err, List, length, drop, take}
+use Rattle.io_commands.specs.Asked.{Request}
+use Rattle.nvmesgl_c.specs.{Answers.nothing, MachineAnswers.told, MachineCodes.code_of_reply, MachineKept.{Kept, code_in}, Requests.{asked_of, IsMade}}
+use Rattle.nvmesgl_c.specs.declared.words.{answer.Answer.Answer, asked.CRequest.CRequest, piece.CPiece.CPiece}
 use Rattle.step_core.specs.{Bench.Does, Values.{Step, Reply}}
 use Rattle.nvmesgl_c.specs.Requests as requests
 use Rattle.step_core.specs.declared.step.Reply.TheVariants as reply
@@ -35,19 +34,16 @@ SaysOrWants t what code answer new = Says t what code answer new ⊎ Refuses t 1
 abbrev pub looked_at : List ℕ → List ℕ
 looked_at bytes = take 1048577 bytes
 
--- a reservation of a kind of command, where some piece is of no kind, and where each is of one
-abbrev pub ReservesPieces : Bool → Kind → Kept → ℕ → ℕ → ℕ → List CPiece → ℕ → Answer → Kept → Type 0
-ReservesPieces true k t q slba blocks pieces code answer new = Refuses t 56 code answer new
-ReservesPieces false k t q slba blocks pieces code answer new =
-    SaysOrWants t (step.Reserve q (record { kind = k; nsid = 1; flags = NONE; slba = slba; blocks = blocks; pieces = map piece_of pieces })) code answer new
+-- a reservation of what was made of what C asks for, or its code
+abbrev pub ReservesMade : Result Request ℕ → Kept → ℕ → ℕ → Answer → Kept → Type 0
+ReservesMade (Err cause) t q code answer new = Refuses t cause code answer new
+ReservesMade (Ok request) t q code answer new = Says t (step.Reserve q request) code answer new
 
--- a reservation of a kind of command
-abbrev pub ReservesKind : Option Kind → Kept → ℕ → ℕ → ℕ → List CPiece → ℕ → Answer → Kept → Type 0
-ReservesKind None t q slba blocks pieces code answer new = Refuses t 4 code answer new
-ReservesKind (Some k) t q slba blocks pieces code answer new = ReservesPieces (list_any is_no_piece pieces) k t q slba blocks pieces code answer new
-
-abbrev pub Reserves : Kept → ℕ → ℕ → ℕ → ℕ → List CPiece → ℕ → Answer → Kept → Type 0
-Reserves t q number slba blocks pieces code answer new = ReservesKind (kind_of number) t q slba blocks (requests.looked_at pieces) code answer new
+-- a reservation of what C asks for
+pub record Reserves (t : Kept) (q : ℕ) (asked : CRequest) (pieces : List CPiece) (code : ℕ) (answer : Answer) (new : Kept) : Type 0 where
+  pub made : Result Request ℕ
+  pub is_made : IsMade (asked_of asked (requests.looked_at pieces)) made
+  pub goes_on : ReservesMade made t q code answer new
 
 -- a Read's bytes at the front of a buffer, where they fit
 abbrev pub Laid : Result Reply ℕ → ℕ → List ℕ → List ℕ → Type 0

@@ -12,6 +12,7 @@ macro_rules! or_code {
 }
 
 mod answer;
+mod asked;
 mod buffers;
 pub mod code;
 mod image;
@@ -26,6 +27,7 @@ mod request;
 mod reserved;
 
 pub use answer::{Answer, collected, ended, nothing, reaped, refused, touching, walked};
+pub use asked::{CRequest, asked_of, plain};
 pub use buffers::{CBuffer, CBytes, copy_of, count_of, lay, room_of};
 pub use image::image_for;
 pub use lent::{Lent, LentMemory, MOST_BYTES};
@@ -33,7 +35,7 @@ pub use lent_regions::LentRegions;
 pub use not_opened::{NotOpened, code_of_not_opened, fault_of_form, told_not_opened};
 pub(crate) use or_code;
 pub use owner::{COwner, owner_of};
-pub use piece::{CPiece, NoPieces, kind_of, pieces_of};
+pub use piece::{CPiece, kind_of};
 pub use recorded::Recorded;
 pub use region::{CRegion, pages_in};
 pub use request::{MOST_MOVED, request_for};

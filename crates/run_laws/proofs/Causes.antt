@@ -16,12 +16,12 @@ use Rattle.controller_walk.specs.{Laws.after_units, Units.{Course, Closes, Does,
 use Rattle.controller_walk.specs.declared.walk.WalkState.{WalkState, TheVariants.End}
 use Rattle.sgl_descriptor.specs.{Spelling.spelling, declared.Direction.{Direction, TheVariants.{Destination, Source}}}
 use Rattle.entry_codec.specs.{Status.is_success, declared.{admin_opcode.TheConstants.{ABORT, DELETE_IO_SQ}, io_opcode.TheConstants.COMPARE, status.Status.Status}}
-use Rattle.entry_codec.specs.declared.status.TheConstants.Status.{SUCCESS, ABORT_REQUESTED, ABORTED_SQ_DELETION, INVALID_NAMESPACE, LBA_OUT_OF_RANGE, COMPARE_FAILURE}
+use Rattle.entry_codec.specs.declared.status.TheConstants.Status.{SUCCESS, ABORT_REQUESTED, ABORTED_SQ_DELETION, INVALID_OPCODE, INVALID_NAMESPACE, LBA_OUT_OF_RANGE, COMPARE_FAILURE}
 use Rattle.entry_codec.specs.declared.submission.SubEntry.{SubEntry}
 use Rattle.io_commands.{proofs.Building.{entry_blocks, few_blocks}, specs.{Asked.Request, Drafts.io_entry}}
 use Rattle.io_commands.specs.Jobs.{verdict_of, io_fault, bytes_after_check, first_block, block_number, need_of_entry, kind_of_opcode, direction_of_entry}
-use Rattle.io_commands.specs.{Values.IsGood, Requests.opcode_of, declared.request.Kind.{Kind, TheVariants.{Write, Read, Compare}}}
-use Rattle.run_laws.specs.Statuses.{fetches, aborts, deletes, since_fetch, fetches_by, managed_entry, status_by, has_cause, misses_namespace, passes_image, is_compare, every_status_has_its_cause}
+use Rattle.io_commands.specs.{Values.IsGood, Requests.moves_data, declared.request.Kind.{Kind, TheVariants.{Write, Compare}}}
+use Rattle.run_laws.specs.Statuses.{fetches, aborts, deletes, since_fetch, fetches_by, managed_entry, status_by, has_cause, is_unknown, misses_namespace, passes_image, is_compare, every_status_has_its_cause}
 use Rattle.two_sides.proofs.{Along.{Carried, Before, keeps, made_of, run_before}, Commands.{in_hand_is, Walking, walking}}
 use Rattle.two_sides.proofs.{ControllerMoves.{unit_bytes, unit_done, finished, fetch_of, walk_by, complete_by}, JobLaws.{moved_length, blocks_put, not_zero}}
 use Rattle.two_sides.proofs.{NeverFull.{one_job, stood_on, stood_at_opening}, PlacesKept.{InHand, first_is, running_not_past, in_hand}}
@@ -32,6 +32,7 @@ use Rattle.admin_commands.specs.{Entries.{named_queue, named_command}, declared.
 use Rattle.page_memory.specs.Pages.{with_bytes}
 use Rattle.block_image.specs.Blocks.{blocks_at}
 use Rattle.page_memory.proofs.Lists.{found_is, all-found, all-filter, some_is}
+use Rattle.run_laws.proofs.KnownKinds.{moving_kind, still_kind, list_moves}
 pub use Rattle.two_sides.proofs.Heads.{no_conflict as not_conflicting}
 
 -- Each verdict of an I/O job has its cause in the run: what steps do to that.
@@ -60,6 +61,7 @@ cause earlier blocks j st =
     is_success st
     || (same_status st ABORT_REQUESTED && list_any (aborts j.q j.entry.cid) (since_fetch j.q j.entry.cid earlier))
     || (same_status st ABORTED_SQ_DELETION && list_any (deletes j.q) (since_fetch j.q j.entry.cid earlier))
+    || (same_status st INVALID_OPCODE && is_none (kind_of_opcode j.entry.opcode))
     || (same_status st INVALID_NAMESPACE && not (j.entry.nsid == 1))
     || (same_status st LBA_OUT_OF_RANGE && nat_lt blocks (first_block j.entry + block_number j.entry))
 
@@ -76,7 +78,8 @@ goes_well (Some st) = is_success st
 pub record Caused (earlier : List Made) (blocks : ℕ) (j : Job) : Type 0 where
   pub fetched : list_any (fetches j.q j.entry.cid) earlier ≡ true
   pub cause : (st : Status) → j.verdict ≡ Some st → cause earlier blocks j st ≡ true
-  -- what goes well is of namespace 1
+  -- what goes well is of an opcode that the controller has, and of namespace 1
+  pub known : goes_well j.verdict ≡ true → is_none (kind_of_opcode j.entry.opcode) ≡ false
   pub namespace : goes_well j.verdict ≡ true → j.entry.nsid ≡ 1
   -- a Write that goes well has all its bytes, and its blocks lie in the image
   pub whole : kind_of_opcode j.entry.opcode ≡ Some Write → goes_well j.verdict ≡ true → length j.bytes ≡ need_of_entry j.entry
@@ -91,8 +94,8 @@ AllCaused earlier blocks js = AllByRecursion (CausedIfIo earlier blocks) js
 both_on : (a b b' : Bool) → (b ≡ true → b' ≡ true) → (a && b) ≡ true → (a && b') ≡ true
 both_on a b b' f h = grind arith
 
-five_on : (a b b' c c' d e : Bool) → (b ≡ true → b' ≡ true) → (c ≡ true → c' ≡ true) → (a || b || c || d || e) ≡ true → (a || b' || c' || d || e) ≡ true
-five_on a b b' c c' d e f g h = grind arith
+six_on : (a b b' c c' d e k : Bool) → (b ≡ true → b' ≡ true) → (c ≡ true → c' ≡ true) → (a || b || c || d || e || k) ≡ true → (a || b' || c' || d || e || k) ≡ true
+six_on a b b' c c' d e k f g h = grind arith
 
 -- a step that is no fetch of the command
 pub caused_on : (earlier : List Made) (blocks : ℕ) (j : Job) (m : Made) → fetches j.q j.entry.cid m ≡ false → Caused earlier blocks j → Caused (earlier ++ m ∷ []) blocks j
@@ -101,13 +104,15 @@ caused_on earlier blocks j m far h = record {
   cause = λ st e.
       let since = since_more j.q j.entry.cid earlier m h.fetched far in
       let l = since_fetch j.q j.entry.cid earlier in
-      five_on (is_success st) (same_status st ABORT_REQUESTED && list_any (aborts j.q j.entry.cid) l) (same_status st ABORT_REQUESTED && list_any (aborts j.q j.entry.cid) (since_fetch j.q j.entry.cid (earlier ++ m ∷ [])))
+      six_on (is_success st) (same_status st ABORT_REQUESTED && list_any (aborts j.q j.entry.cid) l) (same_status st ABORT_REQUESTED && list_any (aborts j.q j.entry.cid) (since_fetch j.q j.entry.cid (earlier ++ m ∷ [])))
       (same_status st ABORTED_SQ_DELETION && list_any (deletes j.q) l) (same_status st ABORTED_SQ_DELETION && list_any (deletes j.q) (since_fetch j.q j.entry.cid (earlier ++ m ∷ [])))
-      (same_status st INVALID_NAMESPACE && not (j.entry.nsid == 1)) (same_status st LBA_OUT_OF_RANGE && nat_lt blocks (first_block j.entry + block_number j.entry))
+      (same_status st INVALID_OPCODE && is_none (kind_of_opcode j.entry.opcode)) (same_status st INVALID_NAMESPACE && not (j.entry.nsid == 1))
+      (same_status st LBA_OUT_OF_RANGE && nat_lt blocks (first_block j.entry + block_number j.entry))
       (both_on (same_status st ABORT_REQUESTED) (list_any (aborts j.q j.entry.cid) l) (list_any (aborts j.q j.entry.cid) (since_fetch j.q j.entry.cid (earlier ++ m ∷ [])))
       (λ z. ap (list_any (aborts j.q j.entry.cid)) since ∙ any_longer (aborts j.q j.entry.cid) l m z))
       (both_on (same_status st ABORTED_SQ_DELETION) (list_any (deletes j.q) l) (list_any (deletes j.q) (since_fetch j.q j.entry.cid (earlier ++ m ∷ [])))
       (λ z. ap (list_any (deletes j.q)) since ∙ any_longer (deletes j.q) l m z)) (h.cause st e);
+  known = h.known;
   namespace = h.namespace;
   whole = h.whole;
   inside = h.inside;
@@ -126,6 +131,7 @@ caused_abort earlier blocks j m id far is h = record {
       let any : list_any (aborts j.q j.entry.cid) (since_fetch j.q j.entry.cid (earlier ++ m ∷ [])) ≡ true =
       ap (list_any (aborts j.q j.entry.cid)) (since_more j.q j.entry.cid earlier m h.fetched far) ∙ any_last (aborts j.q j.entry.cid) (since_fetch j.q j.entry.cid earlier) m is in
       subst (λ (x : Status). cause (earlier ++ m ∷ []) blocks (record j { verdict = Some ABORT_REQUESTED; waiting_abort = Some id }) x ≡ true) (some_is e) (rw any refl);
+  known = λ w. absurd (true≢false (sym w));
   namespace = λ w. absurd (true≢false (sym w));
   whole = λ k w. absurd (true≢false (sym w));
   inside = λ k w. absurd (true≢false (sym w));
@@ -139,31 +145,33 @@ caused_stop earlier blocks j m far is h = record {
       let any : list_any (deletes j.q) (since_fetch j.q j.entry.cid (earlier ++ m ∷ [])) ≡ true =
       ap (list_any (deletes j.q)) (since_more j.q j.entry.cid earlier m h.fetched far) ∙ any_last (deletes j.q) (since_fetch j.q j.entry.cid earlier) m is in
       subst (λ (x : Status). cause (earlier ++ m ∷ []) blocks (record j { verdict = Some ABORTED_SQ_DELETION }) x ≡ true) (some_is e) (rw any refl);
+  known = λ w. absurd (true≢false (sym w));
   namespace = λ w. absurd (true≢false (sym w));
   whole = λ k w. absurd (true≢false (sym w));
   inside = λ k w. absurd (true≢false (sym w));
 }
 
--- The field checks of a good request's entry find nothing but another namespace, and blocks beyond the image
+-- The field checks of a good request's entry find nothing but an opcode that the controller does not have, another namespace, and blocks beyond the image
 
 abbrev range_fault : ℕ → SubEntry → Option Status
 range_fault blocks e = if nat_lt blocks (first_block e + block_number e) then Some LBA_OUT_OF_RANGE else None
 
-abbrev entry_fault : ℕ → SubEntry → Option Status
-entry_fault blocks e = if not (e.nsid == 1) then Some INVALID_NAMESPACE else range_fault blocks e
+abbrev named_fault : ℕ → SubEntry → Option Status
+named_fault blocks e = if not (e.nsid == 1) then Some INVALID_NAMESPACE else range_fault blocks e
 
-known_kind : (kind : Kind) → is_none (kind_of_opcode (opcode_of kind)) ≡ false
-known_kind Read = refl
-known_kind Write = refl
-known_kind Compare = refl
+abbrev entry_fault : ℕ → SubEntry → Option Status
+entry_fault blocks e = if is_none (kind_of_opcode e.opcode) then Some INVALID_OPCODE else named_fault blocks e
 
 at_most_2048 : (n : ℕ) → n ≤ 2048 → nat_lt 2048 n ≡ false
 at_most_2048 n few = grind (arith, nat_tests, few)
 
 good_fault : (blocks cid : ℕ) (r : Request) (sgl1 : List ℕ) → IsGood r → io_fault blocks (io_entry cid r sgl1) ≡ entry_fault blocks (io_entry cid r sgl1)
-good_fault blocks cid r sgl1 good =
-    let few = at_most_2048 (block_number (io_entry cid r sgl1)) (subst (λ (n : ℕ). n ≤ 2048) (sym (entry_blocks cid r sgl1 good)) (few_blocks r.kind r.blocks r.pieces good)) in
-    rw (known_kind r.kind, few) refl
+good_fault blocks cid r sgl1 good = elim (cases_Bool (moves_data r.kind)) [
+  | inl moves ↦
+      let few = at_most_2048 (block_number (io_entry cid r sgl1)) (subst (λ (n : ℕ). n ≤ 2048) (sym (entry_blocks cid r sgl1 good moves)) (few_blocks r.kind r.blocks r.pieces good)) in
+      rw (ap is_none (moving_kind r.kind moves), moves, few) refl
+  | inr still ↦ rw (ap is_none (still_kind r.kind still)) refl
+]
 
 -- the entry in hand is that of a good request
 pub record HandGood (e : SubEntry) : Type 0 where
@@ -200,31 +208,51 @@ hand_good s stood q e other hand =
 pub caused_begun : (earlier : List Made) (blocks : ℕ) (image : List ℕ) (q : ℕ) (e : SubEntry) (m : Made) → HandGood e → fetches q e.cid m ≡ true
     → Caused (earlier ++ m ∷ []) blocks (a.new_job q e (io_fault blocks e) 0 (bytes_after_check image e (io_fault blocks e)))
 caused_begun earlier blocks image q e m hand is =
-    elim (cases_Bool (not (e.nsid == 1))) [ inl other ↦ elsewhere other | inr one ↦ there one ]
+    elim (cases_Bool (is_none (kind_of_opcode e.opcode))) [
+      | inl none ↦ unknown none
+      | inr known ↦ elim (cases_Bool (not (e.nsid == 1))) [ inl other ↦ elsewhere known other | inr one ↦ there known one ]
+    ]
   where
     fault : io_fault blocks e ≡ entry_fault blocks e
     fault = subst (λ (x : SubEntry). io_fault blocks x ≡ entry_fault blocks x) (sym hand.is) (good_fault blocks e.cid hand.request hand.sgl1 hand.good)
 
-    elsewhere : not (e.nsid == 1) ≡ true → Caused (earlier ++ m ∷ []) blocks (a.new_job q e (io_fault blocks e) 0 (bytes_after_check image e (io_fault blocks e)))
-    elsewhere other =
-        let is_fault : io_fault blocks e ≡ Some INVALID_NAMESPACE = fault ∙ ap (λ (b : Bool). if b then Some INVALID_NAMESPACE else range_fault blocks e) other in
+    unknown : is_none (kind_of_opcode e.opcode) ≡ true → Caused (earlier ++ m ∷ []) blocks (a.new_job q e (io_fault blocks e) 0 (bytes_after_check image e (io_fault blocks e)))
+    unknown none =
+        let is_fault : io_fault blocks e ≡ Some INVALID_OPCODE = fault ∙ ap (λ (b : Bool). if b then Some INVALID_OPCODE else named_fault blocks e) none in
         rw is_fault (record {
           fetched = any_last (fetches q e.cid) earlier m is;
-          cause = λ st v. subst (λ (x : Status). cause (earlier ++ m ∷ []) blocks (a.new_job q e (Some INVALID_NAMESPACE) 0 []) x ≡ true) (some_is v) (rw other refl);
+          cause = λ st v. subst (λ (x : Status). cause (earlier ++ m ∷ []) blocks (a.new_job q e (Some INVALID_OPCODE) 0 []) x ≡ true) (some_is v) (rw none refl);
+          known = λ w. absurd (true≢false (sym w));
           namespace = λ w. absurd (true≢false (sym w));
           whole = λ k w. absurd (true≢false (sym w));
           inside = λ k w. absurd (true≢false (sym w));
         })
 
-    there : not (e.nsid == 1) ≡ false → Caused (earlier ++ m ∷ []) blocks (a.new_job q e (io_fault blocks e) 0 (bytes_after_check image e (io_fault blocks e)))
-    there one =
-        let range : io_fault blocks e ≡ range_fault blocks e = fault ∙ ap (λ (b : Bool). if b then Some INVALID_NAMESPACE else range_fault blocks e) one in
+    named : is_none (kind_of_opcode e.opcode) ≡ false → io_fault blocks e ≡ named_fault blocks e
+    named known = fault ∙ ap (λ (b : Bool). if b then Some INVALID_OPCODE else named_fault blocks e) known
+
+    elsewhere : is_none (kind_of_opcode e.opcode) ≡ false → not (e.nsid == 1) ≡ true → Caused (earlier ++ m ∷ []) blocks (a.new_job q e (io_fault blocks e) 0 (bytes_after_check image e (io_fault blocks e)))
+    elsewhere known other =
+        let is_fault : io_fault blocks e ≡ Some INVALID_NAMESPACE = named known ∙ ap (λ (b : Bool). if b then Some INVALID_NAMESPACE else range_fault blocks e) other in
+        rw is_fault (record {
+          fetched = any_last (fetches q e.cid) earlier m is;
+          cause = λ st v. subst (λ (x : Status). cause (earlier ++ m ∷ []) blocks (a.new_job q e (Some INVALID_NAMESPACE) 0 []) x ≡ true) (some_is v) (rw other refl);
+          known = λ w. absurd (true≢false (sym w));
+          namespace = λ w. absurd (true≢false (sym w));
+          whole = λ k w. absurd (true≢false (sym w));
+          inside = λ k w. absurd (true≢false (sym w));
+        })
+
+    there : is_none (kind_of_opcode e.opcode) ≡ false → not (e.nsid == 1) ≡ false → Caused (earlier ++ m ∷ []) blocks (a.new_job q e (io_fault blocks e) 0 (bytes_after_check image e (io_fault blocks e)))
+    there known one =
+        let range : io_fault blocks e ≡ range_fault blocks e = named known ∙ ap (λ (b : Bool). if b then Some INVALID_NAMESPACE else range_fault blocks e) one in
         elim (cases_Bool (nat_lt blocks (first_block e + block_number e))) [
           | inl n ↦
               let is_fault : io_fault blocks e ≡ Some LBA_OUT_OF_RANGE = range ∙ ap (λ (b : Bool). if b then Some LBA_OUT_OF_RANGE else None) n in
               rw is_fault (record {
                 fetched = any_last (fetches q e.cid) earlier m is;
                 cause = λ st v. subst (λ (x : Status). cause (earlier ++ m ∷ []) blocks (a.new_job q e (Some LBA_OUT_OF_RANGE) 0 []) x ≡ true) (some_is v) (rw n refl);
+                known = λ w. absurd (true≢false (sym w));
                 namespace = λ w. absurd (true≢false (sym w));
                 whole = λ k w. absurd (true≢false (sym w));
                 inside = λ k w. absurd (true≢false (sym w));
@@ -234,6 +262,7 @@ caused_begun earlier blocks image q e m hand is =
               rw no_fault (record {
                 fetched = any_last (fetches q e.cid) earlier m is;
                 cause = λ st v. absurd (none_some v);
+                known = λ w. known;
                 namespace = λ w. eqb-true e.nsid 1 (not-false (e.nsid == 1) one);
                 whole = λ k w. (rw k (length-replicate (need_of_entry e) 0));
                 inside = λ k w. (grind (arith, nat_tests, n));
@@ -376,7 +405,9 @@ walk_keeps earlier s q cid m far none stood h =
         let well : goes_well j.verdict ≡ true = ap goes_well w.verdict in
         record {
           fetched = k.fetched;
-          cause = λ st v. subst (λ (x : Status). cause (earlier ++ m ∷ []) (a.image_blocks s) j x ≡ true) (sym (answers_well (j.units_done + 1) (course_of s j) (course_ends s stood j w.list) st v)) refl;
+          cause = λ st v. subst (λ (x : Status). cause (earlier ++ m ∷ []) (a.image_blocks s) j x ≡ true)
+              (sym (answers_well (j.units_done + 1) (course_of s j) (course_ends s stood j w.list (list_moves s j w.list (k.known well))) st v)) refl;
+          known = λ x. k.known well;
           namespace = λ x. k.namespace well;
           whole = λ kind x. len kind (k.whole kind well);
           inside = λ kind x. k.inside kind well;
@@ -415,12 +446,10 @@ complete_keeps earlier s q cid m far stood h =
     -- the image is as long behind a Write
     by_kind : (j : Job) (v : Status) → Caused earlier (a.image_blocks s) j → j.verdict ≡ Some v → is_success v ≡ true → (k : Option Kind) → kind_of_opcode j.entry.opcode ≡ k
         → length (jobs.image_by s.controller.image j.entry j.bytes k) ≡ length s.controller.image
-    by_kind j v c jv ok None e = refl
-    by_kind j v c jv ok (Some Read) e = refl
     by_kind j v c jv ok (Some Write) e =
         let well : goes_well j.verdict ≡ true = ap goes_well jv ∙ ok in
         blocks_put s.controller.image j.bytes (first_block j.entry) (block_number j.entry) (c.whole e well) (c.inside e well)
-    by_kind j v c jv ok (Some Compare) e = refl
+    by_kind j v c jv ok k e = refl
 
     by_verdict : (j : Job) → Caused earlier (a.image_blocks s) j → (o : Option Status) → j.verdict ≡ o → length (jobs.image_after s.controller.image j.entry j.bytes o) ≡ length s.controller.image
     by_verdict j c None jv = refl
@@ -484,8 +513,8 @@ traced_before image = run_before Traced (keeps Traced traced_carried) image (λ 
 
 -- What a completion gives
 
-six : (a b c d e f : Bool) → (a || b || c || d || e) ≡ true → (a || b || c || d || e || f) ≡ true
-six a b c d e f h = ap (λ (x : Bool). x || f) h
+seven : (a b c d e f g : Bool) → (a || b || c || d || e || f) ≡ true → (a || b || c || d || e || f || g) ≡ true
+seven a b c d e f g h = ap (λ (x : Bool). x || g) h
 
 pub compare_opcode : (opcode : ℕ) → kind_of_opcode opcode ≡ Some Compare → (opcode == COMPARE) ≡ true
 compare_opcode opcode h = grind arith
@@ -501,6 +530,9 @@ job_status earlier m q cid j other e jq jc some c =
     range : passes_image m q cid ≡ nat_lt (a.image_blocks m.before) (first_block j.entry + block_number j.entry)
     range = ap (λ (o : Option Job). option_map_or (λ j. nat_lt (a.image_blocks m.before) (first_block j.entry + block_number j.entry)) o false) e
 
+    unknown : is_unknown m q cid ≡ is_none (kind_of_opcode j.entry.opcode)
+    unknown = ap (λ (o : Option Job). option_map_or (λ j. is_none (kind_of_opcode j.entry.opcode)) o false) e
+
     namespace : misses_namespace m q cid ≡ not (j.entry.nsid == 1)
     namespace = ap (λ (o : Option Job). option_map_or (λ j. not (j.entry.nsid == 1)) o false) e
 
@@ -510,24 +542,25 @@ job_status earlier m q cid j other e jq jc some c =
     -- a verdict that is no success
     failed : (v : Status) → cause earlier (a.image_blocks m.before) j v ≡ true → has_cause earlier m q cid v ≡ true
     failed v h =
-        six (is_success v) (same_status v ABORT_REQUESTED && list_any (aborts q cid) (since_fetch q cid earlier)) (same_status v ABORTED_SQ_DELETION && list_any (deletes q) (since_fetch q cid earlier))
-        (same_status v INVALID_NAMESPACE && misses_namespace m q cid) (same_status v LBA_OUT_OF_RANGE && passes_image m q cid) (same_status v COMPARE_FAILURE && is_compare m q cid)
-        (rw (range, namespace) (subst (λ (k : ℕ). (is_success v || (same_status v ABORT_REQUESTED && list_any (aborts k cid) (since_fetch k cid earlier)) || (same_status v ABORTED_SQ_DELETION && list_any (deletes k) (since_fetch k cid earlier))
-        || (same_status v INVALID_NAMESPACE && not (j.entry.nsid == 1)) || (same_status v LBA_OUT_OF_RANGE && nat_lt (a.image_blocks m.before) (first_block j.entry + block_number j.entry))) ≡ true) jq
+        seven (is_success v) (same_status v ABORT_REQUESTED && list_any (aborts q cid) (since_fetch q cid earlier)) (same_status v ABORTED_SQ_DELETION && list_any (deletes q) (since_fetch q cid earlier))
+        (same_status v INVALID_OPCODE && is_unknown m q cid) (same_status v INVALID_NAMESPACE && misses_namespace m q cid) (same_status v LBA_OUT_OF_RANGE && passes_image m q cid)
+        (same_status v COMPARE_FAILURE && is_compare m q cid)
+        (rw (range, namespace, unknown) (subst (λ (k : ℕ). (is_success v || (same_status v ABORT_REQUESTED && list_any (aborts k cid) (since_fetch k cid earlier)) || (same_status v ABORTED_SQ_DELETION && list_any (deletes k) (since_fetch k cid earlier))
+        || (same_status v INVALID_OPCODE && is_none (kind_of_opcode j.entry.opcode)) || (same_status v INVALID_NAMESPACE && not (j.entry.nsid == 1))
+        || (same_status v LBA_OUT_OF_RANGE && nat_lt (a.image_blocks m.before) (first_block j.entry + block_number j.entry))) ≡ true) jq
         (subst (λ (n : ℕ). (is_success v || (same_status v ABORT_REQUESTED && list_any (aborts j.q n) (since_fetch j.q n earlier)) || (same_status v ABORTED_SQ_DELETION && list_any (deletes j.q) (since_fetch j.q n earlier))
-        || (same_status v INVALID_NAMESPACE && not (j.entry.nsid == 1)) || (same_status v LBA_OUT_OF_RANGE && nat_lt (a.image_blocks m.before) (first_block j.entry + block_number j.entry))) ≡ true) jc h)))
+        || (same_status v INVALID_OPCODE && is_none (kind_of_opcode j.entry.opcode)) || (same_status v INVALID_NAMESPACE && not (j.entry.nsid == 1))
+        || (same_status v LBA_OUT_OF_RANGE && nat_lt (a.image_blocks m.before) (first_block j.entry + block_number j.entry))) ≡ true) jc h)))
 
     differs : kind_of_opcode j.entry.opcode ≡ Some Compare → has_cause earlier m q cid COMPARE_FAILURE ≡ true
     differs k = rw (compares ∙ compare_opcode j.entry.opcode k) refl
 
     by_kind : (k : Option Kind) → kind_of_opcode j.entry.opcode ≡ k → has_cause earlier m q cid (jobs.status_by m.before.controller.image j.entry j.bytes k) ≡ true
-    by_kind None e = refl
-    by_kind (Some Read) e = refl
-    by_kind (Some Write) e = refl
     by_kind (Some Compare) e = elim (cases_Bool (bytes_eq (blocks_at m.before.controller.image (first_block j.entry) (block_number j.entry)) j.bytes)) [
       | inl e ↦ rw e refl
       | inr e' ↦ rw e' (differs e)
     ]
+    by_kind k e = refl
 
     by : (o : Option Status) → j.verdict ≡ o → has_cause earlier m q cid (jobs.status_after m.before.controller.image j.entry j.bytes o) ≡ true
     by None v = absurd (true≢false (sym some ∙ ap is_some v))

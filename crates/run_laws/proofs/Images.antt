@@ -2,32 +2,33 @@
 use Rattle.io_commands.specs.Jobs as jobs
 use Rattle.machine_model.specs.After as a
 use Rattle.machine_model.specs.Events as events
-use Rattle.std.proofs.Common.{◌≡◌, ℕ, ◌==◌, Bool, true, false, nat_lt, Option, Some, None, List, [], ◌∷◌, ◌++◌, is_some, if◌then◌else◌, refl, ap, sym, ◌∙◌, arith, subst, eqb-true, append-nil, append_assoc, ◌+◌, not, ◌&&◌, ◌||◌, ap₂, inl, inr, ◌*◌, ◌<◌, ◌≤◌, length, slice_set, option_and_then, eq-eqb, length-set}
+use Rattle.std.proofs.Common.{◌≡◌, ℕ, ◌==◌, Bool, true, false, nat_lt, Option, Some, None, List, [], ◌∷◌, ◌++◌, is_some, is_none, if◌then◌else◌, refl, ap, sym, ◌∙◌, arith, subst, eqb-true, append-nil, append_assoc, ◌+◌, not, ◌&&◌, ◌||◌, ap₂, inl, inr, ◌*◌, ◌<◌, ◌≤◌, length, slice_set, option_and_then, eq-eqb, length-set}
 use Rattle.std.proofs.lemmas.{Bool.{true≢false, and_parts, cases_Bool, not-true, eqb-false}, List.{Elements.{All-head, All-tail}, Folds.list_any-append}}
 use Rattle.std.{proofs.lemmas.Option.slice_get-get_or, specs.{List.list_any, Option.{option_map_or, option_map}, Prelude.unwrap_or, Str.bytes_eq}}
 use Rattle.block_image.specs.Blocks.{blocks_at}
 use Rattle.sgl_descriptor.specs.{Spelling.spelling, declared.Direction.TheVariants.Source}
 use Rattle.entry_codec.specs.{Status.is_success, declared.{io_opcode.TheConstants.COMPARE, status.Status.Status}}
-use Rattle.entry_codec.specs.declared.status.TheConstants.Status.{SUCCESS, COMPARE_FAILURE, ABORT_REQUESTED, ABORTED_SQ_DELETION, INVALID_NAMESPACE, LBA_OUT_OF_RANGE}
+use Rattle.entry_codec.specs.declared.status.TheConstants.Status.{SUCCESS, COMPARE_FAILURE, ABORT_REQUESTED, ABORTED_SQ_DELETION, INVALID_OPCODE, INVALID_NAMESPACE, LBA_OUT_OF_RANGE}
 use Rattle.entry_codec.specs.declared.submission.SubEntry.{SubEntry}
 use Rattle.io_commands.{proofs.Building.entry_blocks, specs.{Asked.Request, DataBytes.gathered, Drafts.{DraftContents, io_entry, FitsDraft, HoldsPages, BuiltDraftsSpell}}}
-use Rattle.io_commands.specs.{Jobs.{verdict_of, direction_of_entry, direction_by, kind_of_opcode, first_block, block_number}, Requests.direction_of}
-use Rattle.io_commands.specs.{Values.numbers_of, declared.request.Kind.{Kind, TheVariants.{Compare}}}
+use Rattle.io_commands.specs.{Jobs.{verdict_of, direction_of_entry, kind_of_opcode, first_block, block_number}, Requests.{direction_of, moves_data, opcode_of}}
+use Rattle.io_commands.specs.{Values.numbers_of, declared.request.Kind.{Kind, TheVariants.{Read, Compare}}}
 use Rattle.machine_model.proofs.{Counting.times-cons, HostLeaves.ids_of, Steps.{managed_by, Accepts, same_lists, permitted}}
 use Rattle.machine_model.{proofs.Tokens.{is_job as is_job_tokens}, specs.{After.final_status, Events.{Event, Reply}}}
 use Rattle.machine_model.specs.{Image.{Made, draft_of, submitted_by, written_by, succeeds, image_by, image_from}, Memory.with_pages, Opening.opening}
 use Rattle.machine_model.specs.{Proper.{IsProper, IsPage, ArePages}, Refusals.{refusal_of, job_at, is_job}, State.{State, Controller, Job, is_at}}
 use Rattle.machine_model.specs.{Status.same_status, Step.{Step, times}, Trusted.{TrustedRun, drafts_of, Steps, forges_by, is_forgery}, Weights.one}
 use Rattle.machine_model.specs.declared.words.Refusal.{Refusal}
-use Rattle.run_laws.proofs.Causes.{goes_well, cause, Caused, CausedIfIo, has_verdict, Traced, traced_before, statuses_have_causes, compare_opcode, same_is}
-use Rattle.run_laws.proofs.Known.{OfDraft, OfDraftIfIo, JobKnown, RecordKnown, Known, known_on, all_carried}
+use Rattle.run_laws.proofs.Causes.{goes_well, cause, Caused, CausedIfIo, has_verdict, Traced, traced_before, statuses_have_causes, same_is}
+use Rattle.run_laws.proofs.KnownKinds.{moving_kind, opcode_asked, list_moves}
+use Rattle.run_laws.proofs.Known.{OfDraft, OfDraftIfIo, Carries, JobKnown, RecordKnown, Known, known_on, all_carried}
 use Rattle.run_laws.specs.{Blocks.{the_image_is_the_runs, blocks_of_request, compared, compares_tell_equality}, Built.{built_drafts_spell_in_store, LieIn, AreDistinct}}
 use Rattle.run_laws.specs.Statuses.{aborts, deletes, since_fetch, status_by, has_cause, is_compare}
 use Rattle.run_laws.specs.Walked.{compares_by_their_drafts, compare_failures_are_of_compares}
 use Rattle.two_sides.proofs.Along.{Carried, AtOpenings, Before, keeps, made_of, run_along, run_before, unforged_run, trusted_end}
 use Rattle.two_sides.proofs.{ControllerMoves.{fetch_by, walk_by}, JobLaws.not_zero as positive, NeverFull.{stood_on, stood_at_opening}}
 use Rattle.two_sides.proofs.{PoolBytes.{host_image, trusted_or_reset, unforged_step}, Provided.in_found}
-use Rattle.two_sides.proofs.{Served.{Stood, JobList, job_list}, Standing.controller-completed}
+use Rattle.two_sides.proofs.{Served.{entry_direction, Stood, JobList, job_list}, Standing.controller-completed}
 use Rattle.two_sides.specs.Histories.{openings_have_histories, steps_make_histories}
 use Rattle.sgl_chain.specs.Spells.{Holds}
 use Rattle.page_memory.{proofs.Bytes.{byte_in, slice_get-set_other, slice_get-set_same}, specs.Pages.{Pages, page_at, byte_at}}
@@ -40,21 +41,27 @@ use Rattle.page_memory.proofs.Lists.{found_is, all-found, some_is}
 
 -- The entry of a request
 
-pub entry_kind : (cid : ℕ) (r : Request) (sgl1 : List ℕ) → kind_of_opcode (io_entry cid r sgl1).opcode ≡ Some r.kind
-entry_kind cid r sgl1 = grind arith
+pub entry_kind : (cid : ℕ) (r : Request) (sgl1 : List ℕ) → moves_data r.kind ≡ true → kind_of_opcode (io_entry cid r sgl1).opcode ≡ Some r.kind
+entry_kind cid r sgl1 moves = moving_kind r.kind moves
 
 pub entry_block : (cid : ℕ) (r : Request) (sgl1 : List ℕ) → first_block (io_entry cid r sgl1) ≡ r.slba
 entry_block cid r sgl1 = omega arith
 
 -- The draft of a job's command
 
+-- a kind that moves no data counts as a source
+moves_where_source : (kind : Kind) → (direction_of kind ≡ Source → moves_data kind ≡ true) → moves_data kind ≡ true
+moves_where_source Read h = refl
+moves_where_source kind h = h refl
+
 pub record JobDraft (drafts : List DraftContents) (s : State) (q cid : ℕ) (j : Job) : Type 0 where
   pub list : JobList s j
   pub of : OfDraft drafts s.memory list.command list.request
   pub latest : draft_of q cid drafts ≡ Some of.draft
-  pub kind : kind_of_opcode j.entry.opcode ≡ Some list.request.kind
+  pub opcode : j.entry.opcode ≡ opcode_of list.request.kind
   pub block : first_block j.entry ≡ list.request.slba
-  -- a source's that went well has all the draft's bytes
+  -- one that went well is of a kind that moves data, and a source's has all the draft's bytes
+  pub moves : (v : Status) → j.verdict ≡ Some v → is_success v ≡ true → moves_data list.request.kind ≡ true
   pub bytes : direction_of list.request.kind ≡ Source → (v : Status) → j.verdict ≡ Some v → is_success v ≡ true → j.bytes ≡ gathered list.request.pieces of.draft.data_pages
 
 pub job_draft : (drafts : List DraftContents) (s : State) (q cid : ℕ) (j : Job) → Stood s → Known drafts s → (j.q == 0) ≡ false → job_at s q cid ≡ Some j → JobDraft drafts s q cid j
@@ -68,13 +75,21 @@ job_draft drafts s q cid j stood known other at =
       list = l;
       of = of;
       latest = subst (λ (n : ℕ). draft_of n cid drafts ≡ Some of.draft) (rec.0 ∙ eqb-true j.q q ids.0) (subst (λ (n : ℕ). draft_of l.command.q n drafts ≡ Some of.draft) (rec.1 ∙ eqb-true j.entry.cid cid ids.1) of.latest);
-      kind = ap (λ (e : SubEntry). kind_of_opcode e.opcode) l.entry ∙ entry_kind l.command.cid l.request (spelling l.list.first);
+      opcode = opcode_asked s j l;
       block = ap first_block l.entry ∙ entry_block l.command.cid l.request (spelling l.list.first);
-      bytes = λ source v is ok.
-          let dir : direction_of_entry j.entry ≡ Source = ap (λ (e : SubEntry). direction_by (kind_of_opcode e.opcode)) l.entry ∙ ap direction_by (entry_kind l.command.cid l.request (spelling l.list.first)) ∙ source in
-          all_carried s stood j l dir of.draft.data_pages of.pages (of.stand source) v is
-          (all-found (JobKnown s) (is_job q cid) s.controller.jobs j at known.jobs other dir (ap goes_well is ∙ ok));
+      moves = λ v is ok. moves_where_source l.request.kind (λ source. list_moves s j l (carries l source v is ok).known);
+      bytes = λ source v is ok. all_carried s stood j l (dir l source) of.draft.data_pages of.pages (of.stand source) v is (carries l source v is ok);
     }
+  where
+    dir : (l : JobList s j) → direction_of l.request.kind ≡ Source → direction_of_entry j.entry ≡ Source
+    dir l source = ap direction_of_entry l.entry ∙ entry_direction l.command.cid l.request (spelling l.list.first) ∙ source
+
+    carries : (l : JobList s j) → direction_of l.request.kind ≡ Source → (v : Status) → j.verdict ≡ Some v → is_success v ≡ true → Carries s j
+    carries l source v is ok = all-found (JobKnown s) (is_job q cid) s.controller.jobs j at known.jobs other (dir l source) (ap goes_well is ∙ ok)
+
+-- the kind of a job that went well
+job_kind : (drafts : List DraftContents) (s : State) (q cid : ℕ) (j : Job) (d : JobDraft drafts s q cid j) (v : Status) → j.verdict ≡ Some v → is_success v ≡ true → kind_of_opcode j.entry.opcode ≡ Some d.list.request.kind
+job_kind drafts s q cid j d v is ok = ap kind_of_opcode d.opcode ∙ moving_kind d.list.request.kind (d.moves v is ok)
 
 -- Completing
 
@@ -86,6 +101,13 @@ by_kind : (drafts : List DraftContents) (s : State) (q cid : ℕ) (j : Job) (d :
     → jobs.image_by s.controller.image j.entry j.bytes (Some k) ≡ (if is_success (jobs.status_by s.controller.image j.entry j.bytes (Some k)) then written_by d.of.draft s.controller.image else s.controller.image)
 by_kind drafts s q cid j d v is ok k k' = grind arith
 
+by_opcode : (drafts : List DraftContents) (s : State) (q cid : ℕ) (j : Job) (d : JobDraft drafts s q cid j) (v : Status) → j.verdict ≡ Some v → is_success v ≡ true
+    → jobs.image_by s.controller.image j.entry j.bytes (kind_of_opcode j.entry.opcode)
+    ≡ (if is_success (jobs.status_by s.controller.image j.entry j.bytes (kind_of_opcode j.entry.opcode)) then written_by d.of.draft s.controller.image else s.controller.image)
+by_opcode drafts s q cid j d v is ok =
+    subst (λ (k : Option Kind). jobs.image_by s.controller.image j.entry j.bytes k ≡ (if is_success (jobs.status_by s.controller.image j.entry j.bytes k) then written_by d.of.draft s.controller.image else s.controller.image))
+    (sym (job_kind drafts s q cid j d v is ok)) (by_kind drafts s q cid j d v is ok d.list.request.kind refl)
+
 completed : (drafts : List DraftContents) (s : State) (q cid : ℕ) (j : Job) → Stood s → Known drafts s → job_at s q cid ≡ Some j → is_some j.verdict ≡ true
     → a.image_completed j s.controller.image ≡ (if is_success (final_status s j) then option_map_or (λ d. written_by d s.controller.image) (draft_of q cid drafts) s.controller.image else s.controller.image)
 completed drafts s q cid j stood known at some = go (j.q == 0) refl
@@ -96,7 +118,10 @@ completed drafts s q cid j stood known at some = go (j.q == 0) refl
     io : JobDraft drafts s q cid j → (o : Option Status) → j.verdict ≡ o → is_some o ≡ true
         → jobs.image_after s.controller.image j.entry j.bytes o ≡ (if is_success (jobs.status_after s.controller.image j.entry j.bytes o) then option_map_or (λ d. written_by d s.controller.image) (draft_of q cid drafts) s.controller.image else s.controller.image)
     io d None is some = absurd (true≢false (sym some))
-    io d (Some v) is some = grind (arith, by_kind)
+    io d (Some v) is some = elim (cases_Bool (is_success v)) [
+      | inl ok ↦ rw (ok, d.latest) (by_opcode drafts s q cid j d v is ok)
+      | inr failed ↦ rw (failed, failed) refl
+    ]
 
     go : (b : Bool) → (j.q == 0) ≡ b → (if b then s.controller.image else jobs.image_after s.controller.image j.entry j.bytes j.verdict)
         ≡ (if is_success (if b then unwrap_or j.verdict SUCCESS else jobs.status_after s.controller.image j.entry j.bytes j.verdict) then option_map_or (λ d. written_by d s.controller.image) (draft_of q cid drafts) s.controller.image else s.controller.image)
@@ -229,19 +254,21 @@ bytes_swap xs ys = go (bytes_eq xs ys) refl (bytes_eq ys xs) refl
     go false e true f = absurd (true≢false (sym (turned ys xs f) ∙ e))
     go false e false f = e ∙ sym f
 
-none_of_three : (s a x b y n c z : Bool) → s ≡ false → (s || (a && x) || (b && y) || n || (c && z)) ≡ true → not (a || b || c) ≡ true → n ≡ true
-none_of_three s a x b y n c z failed h fine = grind arith
+none_of_three : (s a x b y o u n c z : Bool) → s ≡ false → u ≡ false → (s || (a && x) || (b && y) || (o && u) || n || (c && z)) ≡ true → not (a || b || c) ≡ true → n ≡ true
+none_of_three s a x b y o u n c z failed known h fine = grind arith
 
--- the cause that is left where a command was neither stopped nor beyond the image
-namespace_left : (done : List Made) (blocks : ℕ) (j : Job) (v : Status) → is_success v ≡ false → cause done blocks j v ≡ true
+-- the cause that is left where a command was neither stopped nor beyond the image, and the controller has its opcode
+namespace_left : (done : List Made) (blocks : ℕ) (j : Job) (v : Status) → is_success v ≡ false → is_none (kind_of_opcode j.entry.opcode) ≡ false → cause done blocks j v ≡ true
     → not (same_status v ABORT_REQUESTED || same_status v ABORTED_SQ_DELETION || same_status v LBA_OUT_OF_RANGE) ≡ true → (same_status v INVALID_NAMESPACE && not (j.entry.nsid == 1)) ≡ true
-namespace_left done blocks j v failed h fine =
+namespace_left done blocks j v failed known h fine =
     none_of_three (is_success v) (same_status v ABORT_REQUESTED) (list_any (aborts j.q j.entry.cid) (since_fetch j.q j.entry.cid done)) (same_status v ABORTED_SQ_DELETION)
-    (list_any (deletes j.q) (since_fetch j.q j.entry.cid done)) (same_status v INVALID_NAMESPACE && not (j.entry.nsid == 1)) (same_status v LBA_OUT_OF_RANGE) (nat_lt blocks (first_block j.entry + block_number j.entry))
-    failed h fine
+    (list_any (deletes j.q) (since_fetch j.q j.entry.cid done)) (same_status v INVALID_OPCODE) (is_none (kind_of_opcode j.entry.opcode)) (same_status v INVALID_NAMESPACE && not (j.entry.nsid == 1))
+    (same_status v LBA_OUT_OF_RANGE) (nat_lt blocks (first_block j.entry + block_number j.entry))
+    failed known h fine
 
-pub compare_kind : (opcode : ℕ) (k : Kind) → (opcode == COMPARE) ≡ true → kind_of_opcode opcode ≡ Some k → k ≡ Compare
-compare_kind opcode k is h = let h' : kind_of_opcode COMPARE ≡ Some k = subst (λ (n : ℕ). kind_of_opcode n ≡ Some k) (eqb-true opcode COMPARE is) h in sym (some_is h')
+compare_kind : (kind : Kind) → (opcode_of kind == COMPARE) ≡ true → kind ≡ Compare
+compare_kind Compare is = refl
+compare_kind kind is = absurd (true≢false (sym is))
 
 told : (done : List Made) (drafts : List DraftContents) (s : State) (q cid : ℕ) (j : Job) (d : DraftContents) → Traced done s → Known drafts s → job_at s q cid ≡ Some j → refusal_of s (events.Complete q cid) ≡ None
     → (j.entry.opcode == COMPARE) ≡ true → draft_of q cid drafts ≡ Some d
@@ -265,7 +292,10 @@ told done drafts s q cid j d traced known at none compare latest fine = elim (ca
         same = some_is (sym k.latest ∙ latest)
 
         kind : k.list.request.kind ≡ Compare
-        kind = compare_kind j.entry.opcode k.list.request.kind compare k.kind
+        kind = compare_kind k.list.request.kind (ap (λ (n : ℕ). n == COMPARE) (sym k.opcode) ∙ compare)
+
+        its_kind : kind_of_opcode j.entry.opcode ≡ Some Compare
+        its_kind = ap kind_of_opcode (k.opcode ∙ ap opcode_of kind)
 
         final : final_status s j ≡ jobs.status_after s.controller.image j.entry j.bytes (Some v)
         final = ap (λ (b : Bool). if b then unwrap_or j.verdict SUCCESS else jobs.status_after s.controller.image j.entry j.bytes j.verdict) other ∙ ap (jobs.status_after s.controller.image j.entry j.bytes) is
@@ -286,9 +316,9 @@ told done drafts s q cid j d traced known at none compare latest fine = elim (ca
             let there : (d.request.nsid == 1) ≡ true = eq-eqb d.request.nsid 1 (sym namespace ∙ caused.namespace (ap goes_well is ∙ ok)) in
             let first : first_block j.entry ≡ d.request.slba = k.block ∙ ap (λ (r : Request). r.slba) request in
             let count : block_number j.entry ≡ d.request.blocks =
-            ap block_number k.list.entry ∙ entry_blocks k.list.command.cid k.list.request (spelling k.list.list.first) k.list.sized.good ∙ ap (λ (r : Request). r.blocks) request in
+            ap block_number k.list.entry ∙ entry_blocks k.list.command.cid k.list.request (spelling k.list.list.first) k.list.sized.good (ap moves_data kind) ∙ ap (λ (r : Request). r.blocks) request in
             final ∙ ap (λ (b : Bool). if b then jobs.status_by s.controller.image j.entry j.bytes (kind_of_opcode j.entry.opcode) else v) ok
-            ∙ ap (jobs.status_by s.controller.image j.entry j.bytes) (k.kind ∙ ap (λ (x : Kind). Some x) kind)
+            ∙ ap (jobs.status_by s.controller.image j.entry j.bytes) its_kind
             ∙ ap (λ (n : ℕ). if bytes_eq (blocks_at s.controller.image n (block_number j.entry)) j.bytes then SUCCESS else COMPARE_FAILURE) first
             ∙ ap (λ (n : ℕ). if bytes_eq (blocks_at s.controller.image d.request.slba n) j.bytes then SUCCESS else COMPARE_FAILURE) count
             ∙ ap (λ (bs : List ℕ). if bytes_eq (blocks_at s.controller.image d.request.slba d.request.blocks) bs then SUCCESS else COMPARE_FAILURE) bytes
@@ -297,7 +327,7 @@ told done drafts s q cid j d traced known at none compare latest fine = elim (ca
         by false failed =
             let st : final_status s j ≡ v = final ∙ ap (λ (b : Bool). if b then jobs.status_by s.controller.image j.entry j.bytes (kind_of_opcode j.entry.opcode) else v) failed in
             let rest = subst (λ (x : Status). not (same_status x ABORT_REQUESTED || same_status x ABORTED_SQ_DELETION || same_status x LBA_OUT_OF_RANGE) ≡ true) st fine in
-            let left = and_parts (same_status v INVALID_NAMESPACE) (not (j.entry.nsid == 1)) (namespace_left done (a.image_blocks s) j v failed (caused.cause v is) rest) in
+            let left = and_parts (same_status v INVALID_NAMESPACE) (not (j.entry.nsid == 1)) (namespace_left done (a.image_blocks s) j v failed (ap is_none its_kind) (caused.cause v is) rest) in
             let elsewhere : (d.request.nsid == 1) ≡ false = ap (λ (n : ℕ). n == 1) (sym namespace) ∙ not-true (j.entry.nsid == 1) left.1 in
             st ∙ same_is v INVALID_NAMESPACE left.0
             ∙ ap (λ (b : Bool). if b then (if bytes_eq (gathered d.request.pieces d.data_pages) (blocks_of_request d.request s.controller.image) then SUCCESS else COMPARE_FAILURE) else INVALID_NAMESPACE) (sym elsewhere)
@@ -347,7 +377,7 @@ told_by_draft drafts s q cid j d stood known at latest kind = elim (cases_Bool (
   | inr z ↦
       let k = job_draft drafts s q cid j stood known z at in
       let same : k.of.draft ≡ d = some_is (sym k.latest ∙ latest) in
-      compare_opcode j.entry.opcode (k.kind ∙ ap (λ (r : Request). Some r.kind) (sym k.of.asked) ∙ ap (λ (x : DraftContents). Some x.request.kind) same ∙ ap (λ (x : Kind). Some x) kind)
+      ap (λ (n : ℕ). n == COMPARE) (k.opcode ∙ ap (λ (r : Request). opcode_of r.kind) (sym k.of.asked) ∙ ap (λ (x : DraftContents). opcode_of x.request.kind) same ∙ ap opcode_of kind)
 ]
   where
     its_queue : j.q ≡ q
@@ -376,7 +406,7 @@ failures_of_compares image earlier later m end q cid run io status =
     sym (ap (λ (o : Option Job). option_map_or (λ j. j.entry.opcode == COMPARE) o false) x.1) ∙ only_compare earlier m q cid (statuses_have_causes image earlier later m end q cid COMPARE_FAILURE run io status) in (
       k.of.draft,
       k.latest,
-      ap (λ (r : Request). r.kind) k.of.asked ∙ compare_kind x.0.entry.opcode k.list.request.kind opcode k.kind,
+      ap (λ (r : Request). r.kind) k.of.asked ∙ compare_kind k.list.request.kind (ap (λ (n : ℕ). n == COMPARE) (sym k.opcode) ∙ opcode),
     )
 
 -- A run is made longer by one step.
@@ -444,10 +474,10 @@ brought_in (page ∷ more) m distinct low whole =
     )
 
 pub built_in_store : BuiltDraftsSpell → built_drafts_spell_in_store
-built_in_store law d entry pages h e few low_data low_chain distinct =
+built_in_store law d entry pages h e moves few low_data low_chain distinct =
     let fits : FitsDraft d = record {
       request = h.request;
       data_pages = λ k p lt. omega (arith, low_data k p lt, few);
       chain_pages = λ k p lt. omega (arith, low_chain k p lt, few);
     } in
-    law d entry h.draft fits e (byte_at (with_pages d.chain_pages pages)) (brought_in d.chain_pages pages distinct low_chain h.chain_pages)
+    law d entry h.draft fits e moves (byte_at (with_pages d.chain_pages pages)) (brought_in d.chain_pages pages distinct low_chain h.chain_pages)

@@ -1,7 +1,7 @@
 -- Records and jobs are those of commands that were reserved and fetched.
 use Rattle.machine_model.specs.After as a
 use Rattle.machine_model.specs.Events as events
-use Rattle.std.proofs.Common.{◌≡◌, ℕ, zero, suc, ◌+◌, ◌≤◌, ◌==◌, Bool, true, false, ◌&&◌, Option, Some, None, List, [], ◌∷◌, ◌++◌, length, take, replicate, nat_eq, if◌then◌else◌, refl, ap, sym, ◌∙◌, arith, subst, eqb-true, eq-eqb, inl, inr, slice_get}
+use Rattle.std.proofs.Common.{◌≡◌, ℕ, zero, suc, ◌+◌, ◌≤◌, ◌==◌, Bool, true, false, ◌&&◌, Option, Some, None, is_none, List, [], ◌∷◌, ◌++◌, length, take, replicate, nat_eq, if◌then◌else◌, refl, ap, sym, ◌∙◌, arith, subst, eqb-true, eq-eqb, inl, inr, slice_get}
 use Rattle.std.proofs.lemmas.{Bool.{true≢false, and_parts, or_left, or_right, cases_Bool}, List.{length-replicate, Elements.{All-head, All-tail}}}
 use Rattle.std.specs.{Cmp.Lexicographic.pointwise, List.AllByRecursion, Option.option_map_or}
 use Rattle.page_ledger.specs.Owners.{is_among}
@@ -13,7 +13,7 @@ use Rattle.controller_walk.specs.{Units.{units, Act, Course, Closes, Does}, Walk
 use Rattle.entry_codec.specs.{Status.is_success, declared.status.Status.Status}
 use Rattle.entry_codec.specs.declared.submission.SubEntry.{SubEntry}
 use Rattle.io_commands.specs.{Asked.Request, DataBytes.{PagesOut, gathered}, Drafts.DraftContents}
-use Rattle.io_commands.specs.Jobs.{need_of_entry, direction_of_entry, verdict_of, io_fault, bytes_after_check}
+use Rattle.io_commands.specs.Jobs.{need_of_entry, direction_of_entry, verdict_of, io_fault, bytes_after_check, kind_of_opcode}
 use Rattle.io_commands.specs.{Requests.{direction_of, parts_of}, Values.numbers_of}
 use Rattle.machine_model.proofs.{Cases.none_some, Counting.held_once, HostLeaves.ids_of, Moves.{draft_found, draft_lives, posts, posted_is}}
 use Rattle.machine_model.{proofs.{Owned.in_record, Steps.{Accepts, pages_match, same_lists}}, specs.{After.course_of, Events.{Event, Reply}}}
@@ -26,6 +26,7 @@ use Rattle.two_sides.proofs.Provided.{In, sent_found, in_at}
 use Rattle.two_sides.proofs.Served.{requests_same, entry_direction, Stood, counts_sent, data_of, good_is, JobList, job_list, same_list, course_in, CourseWhole, course_whole}
 use Rattle.two_sides.proofs.{TiedAll.Grounds, Untouched.{owned_once, untouched}}
 use Rattle.run_laws.proofs.Carrying.{carried, did, carried_more, carried_same, MovesTo, moves_to, carried_length, carried_byte, Stands, Gathers, IsPlace, gathers_pieces, all_stand, none_discarded, source_places}
+use Rattle.run_laws.proofs.KnownKinds.{list_moves, opcode_had}
 use Rattle.run_laws.proofs.{Causes.goes_well, Moves.{RecordsMove, records_event, JobsMove, jobs_event, walked_bytes}}
 use Rattle.page_memory.proofs.Lists.{all-at, all-found, some_is, all-front}
 
@@ -48,8 +49,9 @@ OfDraftIfIo drafts m r (Management adm) = Unit {0}
 abbrev pub RecordKnown : List DraftContents → Pages → Record → Type 0
 RecordKnown drafts m r = is_submitted r.phase ≡ true → OfDraftIfIo drafts m r r.work
 
--- a source's job that goes well has carried what its units so far move, and with a verdict all of it
+-- a source's job that goes well is of an opcode that the controller has, and has carried what its units so far move, and with a verdict all of it
 pub record Carries (s : State) (j : Job) : Type 0 where
+  pub known : is_none (kind_of_opcode j.entry.opcode) ≡ false
   pub bytes : j.bytes ≡ carried s.memory (take j.units_done (units (course_of s j))) (replicate (need_of_entry j.entry) 0)
   pub over : (st : Status) → j.verdict ≡ Some st → length (units (course_of s j)) ≤ j.units_done
 
@@ -233,7 +235,7 @@ over_units k (Closes v) st h = omega arith
 begun_carries : (t : State) (image : List ℕ) (blocks q : ℕ) (e : SubEntry) → direction_of_entry e ≡ Source → (o : Option Status) → io_fault blocks e ≡ o → goes_well o ≡ true
     → Carries t (a.new_job q e o 0 (bytes_after_check image e o))
 begun_carries t image blocks q e dir (Some st) f well = absurd (true≢false (sym well ∙ fault_fails blocks e st f))
-begun_carries t image blocks q e dir None f well = record { bytes = (grind arith); over = λ st v. absurd (none_some v) }
+begun_carries t image blocks q e dir None f well = record { known = opcode_had blocks e f; bytes = (grind arith); over = λ st v. absurd (none_some v) }
 
 is_did : (s : State) (j : Job) (act : Act) → walked_bytes s j Source act ≡ did s.memory act j.bytes
 is_did s j act = grind arith
@@ -244,6 +246,7 @@ jobs_known s e reply ok stood = record {
       let c = known other dir well in
       let l = job_list s stood j (in_at s.controller.jobs k j at) other (λ P all. all-at P s.controller.jobs k j at all) in
       record {
+        known = c.known;
         bytes = c.bytes ∙ sym (still_carried s e reply ok stood j l dir j.units_done (replicate (need_of_entry j.entry) 0));
         over = λ st v. subst (λ (x : Course). length (units x) ≤ j.units_done) (sym (course_stays s e reply ok stood j l)) (c.over st v);
       };
@@ -253,6 +256,7 @@ jobs_known s e reply ok stood = record {
   walks = λ q cid j act is w u known other dir well.
       let c = known other dir (ap goes_well w.verdict) in
       record {
+        known = c.known;
         bytes = ap (λ (d : Direction). walked_bytes s j d act) dir ∙ is_did s j act ∙ ap (did s.memory act) c.bytes
             ∙ sym (carried_more s.memory (units (course_of s j)) j.units_done act (replicate (need_of_entry j.entry) 0) u)
             ∙ sym (still_carried s e reply ok stood j w.list dir (j.units_done + 1) (replicate (need_of_entry j.entry) 0));
@@ -304,7 +308,7 @@ all_carried s stood j l dir pages numbers stand st v c =
     Gathers' ns = Gathers s.memory (targets (direction_of_entry j.entry) (parts_of l.request.pieces ns)) (gathered l.request.pieces pages)
 
     whole : CourseWhole s j (parts_of l.request.pieces l.command.data_pages)
-    whole = course_whole s stood j l
+    whole = course_whole s stood j l (list_moves s j l c.known)
 
     to : MovesTo s.memory (targets (direction_of_entry j.entry) (parts_of l.request.pieces l.command.data_pages)) (course_of s j)
     to = moves_to s.memory (memory_of s.memory) (direction_of_entry j.entry) (need_of_entry j.entry) l.command.chain_pages l.command.data_pages (targets (direction_of_entry j.entry) (parts_of l.request.pieces l.command.data_pages))

@@ -11,6 +11,7 @@ pub mod Images
 pub mod Walked
 pub mod Accepted
 pub mod Moves
+pub mod KnownKinds
 pub mod Causes
 pub mod Carrying
 pub mod Known

@@ -5,9 +5,9 @@ use Rattle.std.proofs.Common.{◌≡◌, ◌⊎◌, inl, inr, ℕ, ◌==◌, nat
 use Rattle.std.proofs.lemmas.Bool.{true≢false, and_parts, not-false, or_left, or_right, not-true, Decides.nat_tests}
 use Rattle.std.{proofs.lemmas.List.{append_assoc, length-replicate}, specs.{List.{list_any, AllByRecursion}, Option.{option_map_or, option_map}}}
 use Rattle.entry_codec.specs.{Status.is_success, declared.status.Status.Status}
-use Rattle.entry_codec.specs.declared.status.TheConstants.Status.{SUCCESS, ABORT_REQUESTED, ABORTED_SQ_DELETION, INVALID_NAMESPACE, LBA_OUT_OF_RANGE, COMPARE_FAILURE}
+use Rattle.entry_codec.specs.declared.status.TheConstants.Status.{SUCCESS, ABORT_REQUESTED, ABORTED_SQ_DELETION, INVALID_OPCODE, INVALID_NAMESPACE, LBA_OUT_OF_RANGE, COMPARE_FAILURE}
 use Rattle.io_commands.specs.{Asked.Request, DataBytes.{PagesOut, gathered}, Drafts.DraftContents, Requests.parts_of}
-use Rattle.io_commands.specs.{Values.{FinishedContents, numbers_of}, declared.request.Kind.TheVariants.Read}
+use Rattle.io_commands.specs.{Values.{FinishedContents, numbers_of}, declared.request.Kind.{Kind, TheVariants.Read}}
 use Rattle.machine_model.proofs.{HostLeaves.ids_of, Sound.{named, status_in}, Steps.{Accepts, permitted, first_fails, rest_fails}}
 use Rattle.machine_model.specs.{Claims.OwnsFit, Events.{Event, Reply}, Image.{Made, draft_of, image_after, undiscarded}}
 use Rattle.machine_model.specs.{Refusals.{is_submitted, is_held, record_is, refusal_of}, State.{State, Record, is_at, record_at, pages_of}}
@@ -18,9 +18,9 @@ use Rattle.run_laws.proofs.EndsTold.{DeletedSince, CompletedIn, EndedIn, HeldTol
 use Rattle.run_laws.proofs.{Images.imaged_before, Moves.told_entry}
 use Rattle.run_laws.proofs.ReadsKept.{Images, fetched_in, read_targets, read_blocks, ReadSoFar, ReadIfIo, ReadRecord, Member, members, sized_of, targets_length, blocks_length}
 use Rattle.run_laws.proofs.ReadsWalked.{ReadsSo, images_of, images_append, reads_before}
-use Rattle.run_laws.specs.Blocks.{collected_of, is_read, blocks_of_request, partly, reads_give_their_blocks, stopped_reads_give_a_prefix}
-use Rattle.run_laws.specs.Ends.{retires_by, WasCompleted, WasLost, WasLostByReset, CauseOfEnd, Succeeded, Aborted, Stopped, Lost, LostByReset, WithoutNamespace, PastImage, Differed, ends_come_from_completions, retired_queues_were_deleted, collects_tell_how_commands_ended, every_collect_has_its_cause}
-use Rattle.run_laws.specs.Statuses.{aborts, deletes, since_fetch, misses_namespace, passes_image, is_compare, fetches}
+use Rattle.run_laws.specs.Blocks.{collected_of, reads, is_read, blocks_of_request, partly, reads_give_their_blocks, stopped_reads_give_a_prefix}
+use Rattle.run_laws.specs.Ends.{retires_by, WasCompleted, WasLost, WasLostByReset, CauseOfEnd, Succeeded, Aborted, Stopped, Lost, LostByReset, Unknown, WithoutNamespace, PastImage, Differed, ends_come_from_completions, retired_queues_were_deleted, collects_tell_how_commands_ended, every_collect_has_its_cause}
+use Rattle.run_laws.specs.Statuses.{aborts, deletes, since_fetch, is_unknown, misses_namespace, passes_image, is_compare, fetches}
 use Rattle.two_sides.proofs.{Along.{Before, keeps, run_before}, JobLaws.not_zero as positive, PlacesKept.reaped_completion}
 use Rattle.two_sides.proofs.Served.{good_is, Stood}
 use Rattle.page_ledger.specs.Owners.{is_among}
@@ -125,31 +125,33 @@ runs_tell_ends image earlier later m end q cid f run is_event is_reply =
       | inr c ↦ inr c
     ]
 
--- The six statuses
+-- The seven statuses
 
-one_of_six : (earlier : List Made) (q cid : ℕ) (st : Status) (c : WasCompleted earlier q cid st) → CauseOfEnd earlier q cid st
-one_of_six earlier q cid st c =
+one_of_seven : (earlier : List Made) (q cid : ℕ) (st : Status) (c : WasCompleted earlier q cid st) → CauseOfEnd earlier q cid st
+one_of_seven earlier q cid st c =
     go (is_success st) refl (same_status st ABORT_REQUESTED && list_any (aborts q cid) (since_fetch q cid c.before)) refl (same_status st ABORTED_SQ_DELETION && list_any (deletes q) (since_fetch q cid c.before)) refl
-    (same_status st INVALID_NAMESPACE && misses_namespace c.completion q cid) refl (same_status st LBA_OUT_OF_RANGE && passes_image c.completion q cid) refl
-    (same_status st COMPARE_FAILURE && is_compare c.completion q cid) refl c.cause
+    (same_status st INVALID_OPCODE && is_unknown c.completion q cid) refl (same_status st INVALID_NAMESPACE && misses_namespace c.completion q cid) refl
+    (same_status st LBA_OUT_OF_RANGE && passes_image c.completion q cid) refl (same_status st COMPARE_FAILURE && is_compare c.completion q cid) refl c.cause
   where
     go : (v : Bool) → is_success st ≡ v → (w : Bool) → (same_status st ABORT_REQUESTED && list_any (aborts q cid) (since_fetch q cid c.before)) ≡ w
-        → (x : Bool) → (same_status st ABORTED_SQ_DELETION && list_any (deletes q) (since_fetch q cid c.before)) ≡ x → (n : Bool) → (same_status st INVALID_NAMESPACE && misses_namespace c.completion q cid) ≡ n
+        → (x : Bool) → (same_status st ABORTED_SQ_DELETION && list_any (deletes q) (since_fetch q cid c.before)) ≡ x → (o : Bool) → (same_status st INVALID_OPCODE && is_unknown c.completion q cid) ≡ o
+        → (n : Bool) → (same_status st INVALID_NAMESPACE && misses_namespace c.completion q cid) ≡ n
         → (y : Bool) → (same_status st LBA_OUT_OF_RANGE && passes_image c.completion q cid) ≡ y → (z : Bool) → (same_status st COMPARE_FAILURE && is_compare c.completion q cid) ≡ z
-        → (v || w || x || n || y || z) ≡ true → CauseOfEnd earlier q cid st
-    go true e w ew x ex n en y ey z ez h = Succeeded c (same_is st SUCCESS e)
-    go false e true ew x ex n en y ey z ez h = let p = and_parts (same_status st ABORT_REQUESTED) (list_any (aborts q cid) (since_fetch q cid c.before)) ew in Aborted c (same_is st ABORT_REQUESTED p.0) p.1
-    go false e false ew true ex n en y ey z ez h = let p = and_parts (same_status st ABORTED_SQ_DELETION) (list_any (deletes q) (since_fetch q cid c.before)) ex in Stopped c (same_is st ABORTED_SQ_DELETION p.0) p.1
-    go false e false ew false ex true en y ey z ez h = let p = and_parts (same_status st INVALID_NAMESPACE) (misses_namespace c.completion q cid) en in WithoutNamespace c (same_is st INVALID_NAMESPACE p.0) p.1
-    go false e false ew false ex false en true ey z ez h = let p = and_parts (same_status st LBA_OUT_OF_RANGE) (passes_image c.completion q cid) ey in PastImage c (same_is st LBA_OUT_OF_RANGE p.0) p.1
-    go false e false ew false ex false en false ey true ez h = let p = and_parts (same_status st COMPARE_FAILURE) (is_compare c.completion q cid) ez in Differed c (same_is st COMPARE_FAILURE p.0) p.1
-    go false e false ew false ex false en false ey false ez h = absurd (true≢false (sym h))
+        → (v || w || x || o || n || y || z) ≡ true → CauseOfEnd earlier q cid st
+    go true e w ew x ex o eo n en y ey z ez h = Succeeded c (same_is st SUCCESS e)
+    go false e true ew x ex o eo n en y ey z ez h = let p = and_parts (same_status st ABORT_REQUESTED) (list_any (aborts q cid) (since_fetch q cid c.before)) ew in Aborted c (same_is st ABORT_REQUESTED p.0) p.1
+    go false e false ew true ex o eo n en y ey z ez h = let p = and_parts (same_status st ABORTED_SQ_DELETION) (list_any (deletes q) (since_fetch q cid c.before)) ex in Stopped c (same_is st ABORTED_SQ_DELETION p.0) p.1
+    go false e false ew false ex true eo n en y ey z ez h = let p = and_parts (same_status st INVALID_OPCODE) (is_unknown c.completion q cid) eo in Unknown c (same_is st INVALID_OPCODE p.0) p.1
+    go false e false ew false ex false eo true en y ey z ez h = let p = and_parts (same_status st INVALID_NAMESPACE) (misses_namespace c.completion q cid) en in WithoutNamespace c (same_is st INVALID_NAMESPACE p.0) p.1
+    go false e false ew false ex false eo false en true ey z ez h = let p = and_parts (same_status st LBA_OUT_OF_RANGE) (passes_image c.completion q cid) ey in PastImage c (same_is st LBA_OUT_OF_RANGE p.0) p.1
+    go false e false ew false ex false eo false en false ey true ez h = let p = and_parts (same_status st COMPARE_FAILURE) (is_compare c.completion q cid) ez in Differed c (same_is st COMPARE_FAILURE p.0) p.1
+    go false e false ew false ex false eo false en false ey false ez h = absurd (true≢false (sym h))
 
 pub runs_have_causes : every_collect_has_its_cause
 runs_have_causes image earlier later m end q cid f run is_event is_reply = go (runs_tell_ends image earlier later m end q cid f run is_event is_reply)
   where
     go : WasCompleted earlier q cid f.status ⊎ WasLost earlier q cid f.status ⊎ WasLostByReset earlier q cid f.status → CauseOfEnd earlier q cid f.status
-    go (inl c) = one_of_six earlier q cid f.status c
+    go (inl c) = one_of_seven earlier q cid f.status c
     go (inr (inl c)) = Lost c
     go (inr (inr c)) = LostByReset c
 
@@ -197,8 +199,12 @@ found_in : (s : State) (e : Event) (reply : Reply) (new : State) (f : FinishedCo
 found_in s (events.Collect q cid) (events.Collects g) new f step t is = grind (arith, permitted, found_record, held_where_collected)
 found_in s e reply new f step t is = absurd cc
 
+of_read : (kind : Kind) → reads kind ≡ true → kind ≡ Read
+of_read Read h = refl
+of_read kind h = absurd (true≢false (sym h))
+
 reads_kind : (f : FinishedContents) → is_read f ≡ true → f.request.kind ≡ Read
-reads_kind f h = grind arith
+reads_kind f h = of_read f.request.kind h
 
 -- The pages that are handed out
 

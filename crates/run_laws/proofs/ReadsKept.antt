@@ -15,7 +15,7 @@ use Rattle.entry_codec.specs.{Status.is_success, declared.status.{Status.Status,
 use Rattle.entry_codec.specs.declared.submission.SubEntry.{SubEntry}
 use Rattle.io_commands.{proofs.Building.{carries_entry, entry_blocks}, specs.{Asked.Request, Drafts.{DraftContents, io_entry}}}
 use Rattle.io_commands.specs.Jobs.{verdict_of, io_fault, bytes_after_check, need_of_entry, direction_of_entry, direction_by, kind_of_opcode, first_block, block_number}
-use Rattle.io_commands.specs.{Requests.{parts_of, direction_of}, Values.numbers_of, declared.request.Kind.{Kind, TheVariants.Read}}
+use Rattle.io_commands.specs.{Requests.{parts_of, direction_of, moves_data, need_of}, Values.numbers_of, declared.request.Kind.{Kind, TheVariants.Read}}
 use Rattle.machine_model.proofs.{Cases.none_some, Counting.held_once, Owned.{in_record, in_queue}, Steps.{Accepts, pages_match}}
 use Rattle.machine_model.specs.{After.{course_of, final_status}, Agreeing.unfetched_count, Claims.OwnsFit, Events.{Event, Reply}}
 use Rattle.machine_model.specs.{Image.{draft_of, submitted_by}, Memory.memory_of, Proper.IsProper}
@@ -235,7 +235,7 @@ job_request s r request m w j l sq sc =
 
 -- the entry of a Read
 entry_reads : (cid : ℕ) (request : Request) (sgl1 : List ℕ) → request.kind ≡ Read → kind_of_opcode (io_entry cid request sgl1).opcode ≡ Some Read
-entry_reads cid request sgl1 kind = entry_kind cid request sgl1 ∙ ap (λ (k : Kind). Some k) kind
+entry_reads cid request sgl1 kind = entry_kind cid request sgl1 (ap moves_data kind) ∙ ap (λ (k : Kind). Some k) kind
 
 pub blocks_length : (image : List ℕ) (slba n : ℕ) → slba + n ≤ length image / 512 → length (blocks_at image slba n) ≡ 512 * n
 blocks_length image slba n h = grind (arith, common_steps)
@@ -246,7 +246,7 @@ targets_length s r request m w kind =
     let sized = sized_of s r request m w in
     length-targets Destination (parts_of request.pieces r.data_pages)
     ∙ ap (λ (d : Direction). counted_in d (parts_of request.pieces r.data_pages)) (sym (ap direction_of kind))
-    ∙ parts_count request r.data_pages sized.good sized.pages
+    ∙ parts_count request r.data_pages sized.good sized.pages ∙ ap (λ (k : Kind). need_of k request.blocks) kind
 
 -- a job that begins
 begun_reading : (s : State) (t : State) (at : Images) (r : Record) (request : Request) → Member s r → r.work ≡ Io request → request.kind ≡ Read → (q : ℕ) (e : SubEntry) (sgl1 : List ℕ) → e ≡ io_entry r.cid request sgl1
@@ -260,7 +260,7 @@ begun_reading s t at r request m w kind q e sgl1 is image k none same well = go 
     first = ap first_block is ∙ entry_block r.cid request sgl1
 
     count : block_number e ≡ request.blocks
-    count = ap block_number is ∙ entry_blocks r.cid request sgl1 (sized_of s r request m w).good
+    count = ap block_number is ∙ entry_blocks r.cid request sgl1 (sized_of s r request m w).good (ap moves_data kind)
 
     at_most : (b n : ℕ) → nat_lt b n ≡ false → n ≤ b
     at_most b n h = grind (arith, nat_tests, h)
@@ -288,7 +288,7 @@ pub all_came : (s : State) → Stood s → (at : Images) (r : Record) (request :
     → (st : Status) → j.verdict ≡ Some st → Reading at s r request k j → Full (read_targets r request) k
 all_came s stood at r request m w kind k j l sq sc st v reading i p target =
     let ids = job_request s r request m w j l sq sc in
-    let whole = course_whole s stood j l in
+    let whole = course_whole s stood j l (ap (λ (x : Request). moves_data x.kind) ids.1 ∙ ap moves_data kind) in
     let dir : direction_of_entry j.entry ≡ Destination = ap direction_of_entry l.entry ∙ entry_direction l.command.cid l.request (spelling l.list.first) ∙ ap (λ (x : Request). direction_of x.kind) ids.1 ∙ ap direction_of kind in
     let parts : parts_of request.pieces r.data_pages ≡ parts_of l.request.pieces l.command.data_pages =
     ap (λ (x : Request). parts_of x.pieces r.data_pages) (sym ids.1) ∙ ap (λ (x : Record). parts_of l.request.pieces x.data_pages) ids.0 in

@@ -19,7 +19,7 @@ use Rattle.controller_walk.{proofs.Along.{list_moves_along, list_moves_all}, spe
 use Rattle.controller_walk.specs.{Units.{Act, Stays, Reads, Moves, Course, Does, units}, declared.walk.WalkState.WalkState}
 use Rattle.entry_codec.specs.{Status.is_success, declared.{hints.{Hints.Hints, TheConstants.Hints.NONE}, status.{Status.Status, TheConstants.Status.ABORTED_SQ_DELETION}}}
 use Rattle.entry_codec.specs.declared.submission.SubEntry.{SubEntry}
-use Rattle.io_commands.specs.{Asked.Request, Drafts.DraftContents, Jobs.{need_of_entry, direction_of_entry}, Requests.{parts_of, direction_of}}
+use Rattle.io_commands.specs.{Asked.Request, Drafts.DraftContents, Jobs.{need_of_entry, direction_of_entry}, Requests.{parts_of, direction_of, moves_data}}
 use Rattle.io_commands.specs.{Values.numbers_of, declared.request.Kind.TheVariants.Read}
 use Rattle.two_sides.proofs.{Along.{Carried, Before, keeps, made_of, run_before}, Commands.{nobody, Walking, walking, no_job}}
 use Rattle.two_sides.proofs.{ControllerMoves.{unit_memory, walk_is}, NeverFull.stood_at_opening, PlacesKept.{drafted_not, reaped_completion}, PoolBytes.host_jobs}
@@ -147,6 +147,9 @@ further s q cid r request j act x o touched ok drafts at h = (
     dir : direction_of_entry j.entry ≡ Destination
     dir = ap direction_of_entry x.walking.list.entry ∙ entry_direction x.walking.list.command.cid x.walking.list.request (spelling x.walking.list.list.first) ∙ ap (λ (y : Request). direction_of y.kind) same.1 ∙ ap direction_of x.kind
 
+    moves : moves_data x.walking.list.request.kind ≡ true
+    moves = ap (λ (y : Request). moves_data y.kind) same.1 ∙ ap moves_data x.kind
+
     reading : Reading at s r request h.k j
     reading = all-found (ReadingIf at s r request h.k) (is_job q cid) s.controller.jobs j x.found (h.jobs submitted) sq sc (ap goes_well x.walking.verdict)
 
@@ -158,7 +161,7 @@ further s q cid r request j act x o touched ok drafts at h = (
 
     to_all : MovesTo s.memory (read_targets r request) (course_of s j)
     to_all =
-        let whole = course_whole s x.stood j x.walking.list in
+        let whole = course_whole s x.stood j x.walking.list moves in
         subst (λ (d : Direction). MovesTo s.memory (targets d (parts_of request.pieces r.data_pages)) (course_of s j)) dir
         (moves_to s.memory (memory_of s.memory) (direction_of_entry j.entry) (need_of_entry j.entry) x.walking.list.command.chain_pages x.walking.list.command.data_pages (targets (direction_of_entry j.entry) (parts_of request.pieces r.data_pages))
         (λ p own. h.whole p (ap (λ (y : Record). is_among y.data_pages p) same.0 ∙ own)) (course_of s j) (taken (direction_of_entry j.entry) (need_of_entry j.entry) [] (descriptor_of j.entry.sgl1))
@@ -174,7 +177,7 @@ further s q cid r request j act x o touched ok drafts at h = (
 
     gap : (place n offset : ℕ) → act ≡ Moves place n offset → (i p : ℕ) → slice_get (read_targets r request) i ≡ Some (Place p) → i < offset → i < h.k
     gap place n offset is i p target lt =
-        let whole = course_whole s x.stood j x.walking.list in
+        let whole = course_whole s x.stood j x.walking.list moves in
         let moved : MovesByte i (course_of s j) =
         list_moves_all (memory_of s.memory) j.entry.sgl1 (direction_of_entry j.entry) (need_of_entry j.entry) whole.ends i p
         (ap (λ (ts : List Target). slice_get ts i) (whole.takes ∙ ap (targets (direction_of_entry j.entry)) parts) ∙ ap (λ (d : Direction). slice_get (targets d (parts_of request.pieces r.data_pages)) i) dir ∙ target) in

@@ -4,7 +4,7 @@ use Rattle.std.specs.Str.{bytes_eq}
 use Rattle.block_image.specs.Blocks.{blocks_at}
 use Rattle.sgl_descriptor.specs.{Targets.{Target, Place, Discarded, targets}, declared.Direction.TheVariants.Destination}
 use Rattle.io_commands.specs.{Asked.Request, DataBytes.gathered, Drafts.DraftContents, Requests.parts_of}
-use Rattle.io_commands.specs.{Values.{FinishedContents, numbers_of}, declared.request.Kind.TheVariants.{Read, Write, Compare}}
+use Rattle.io_commands.specs.{Values.{FinishedContents, numbers_of}, declared.request.Kind.{Kind, TheVariants.Read}}
 use Rattle.entry_codec.specs.{Status.is_success, declared.status.Status.Status}
 use Rattle.entry_codec.specs.declared.status.TheConstants.Status.{SUCCESS, ABORT_REQUESTED, ABORTED_SQ_DELETION, INVALID_NAMESPACE, LBA_OUT_OF_RANGE, COMPARE_FAILURE}
 use Rattle.machine_model.specs.{Events.{Event, Reply}, Image.{Made, image_after, read_of, draft_of}, State.State, Status.same_status}
@@ -17,8 +17,12 @@ abbrev pub collected_of : Event → Reply → Option FinishedContents
 collected_of (events.Collect q cid) (events.Collects f) = Some f
 collected_of e reply = None
 
+abbrev pub reads : Kind → Bool
+reads Read = true
+reads kind = false
+
 abbrev pub is_read : FinishedContents → Bool
-is_read f = elim f.request.kind [ Read ↦ true | Write ↦ false | Compare ↦ false ]
+is_read f = reads f.request.kind
 
 abbrev pub reads_give_their_blocks : Type 0
 reads_give_their_blocks =

@@ -2,11 +2,11 @@
 use Rattle.std.specs.{List.list_any, Option.option_map_or}
 use Rattle.std.specs.Prelude.{◌≡◌, ◌⊎◌, ℕ, ◌==◌, nat_lt, Bool, true, false, ◌&&◌, not, IsTrue, Some, List, [], ◌∷◌, ◌++◌, if◌then◌else◌}
 use Rattle.entry_codec.specs.declared.{hints.TheConstants.Hints.NONE, status.Status.Status}
-use Rattle.entry_codec.specs.declared.status.TheConstants.Status.{SUCCESS, ABORT_REQUESTED, ABORTED_SQ_DELETION, INVALID_NAMESPACE, LBA_OUT_OF_RANGE, COMPARE_FAILURE}
+use Rattle.entry_codec.specs.declared.status.TheConstants.Status.{SUCCESS, ABORT_REQUESTED, ABORTED_SQ_DELETION, INVALID_OPCODE, INVALID_NAMESPACE, LBA_OUT_OF_RANGE, COMPARE_FAILURE}
 use Rattle.io_commands.specs.Values.{FinishedContents}
 use Rattle.machine_model.specs.{Events.{Event, Reply}, Image.Made, Refusals.{served_queue, conflicts, record_is, is_submitted}, State.{State, PostedCompletion}}
 use Rattle.machine_model.specs.{Step.Step, Trusted.{TrustedRun, is_reset}, declared.words.Reaped.{Reaped, TheVariants.{Empty, Done, AdminDone}}}
-use Rattle.run_laws.specs.Statuses.{status_given, has_cause, since_fetch, aborts, deletes, misses_namespace, passes_image, is_compare}
+use Rattle.run_laws.specs.Statuses.{status_given, has_cause, since_fetch, aborts, deletes, is_unknown, misses_namespace, passes_image, is_compare}
 use Rattle.machine_model.specs.Events as events
 
 -- What a reap answers: the oldest completion of the queue, and never a rejection
@@ -115,8 +115,8 @@ collects_tell_no_hints =
     (image : List ℕ) (earlier later : List Made) (m : Made) (end : State) (q cid : ℕ) (f : FinishedContents) → TrustedRun image (earlier ++ m ∷ later) end
     → m.event ≡ events.Collect q cid → m.reply ≡ events.Collects f → f.hints ≡ NONE
 
--- The six statuses of a command that was collected, each with its cause: it succeeded; an Abort of it, or a deletion of its queue, was
--- fetched while it was at the controller; it was lost with its queue, or by a reset; its namespace was another than 1; its blocks passed the
+-- The seven statuses of a command that was collected, each with its cause: it succeeded; an Abort of it, or a deletion of its queue, was
+-- fetched while it was at the controller; it was lost with its queue, or by a reset; the controller does not have it; its namespace was another than 1; its blocks passed the
 -- image's end; a Compare found a difference
 pub data CauseOfEnd (earlier : List Made) (q cid : ℕ) (st : Status) : Type 0 where
   Succeeded : WasCompleted earlier q cid st → st ≡ SUCCESS → CauseOfEnd earlier q cid st
@@ -124,6 +124,7 @@ pub data CauseOfEnd (earlier : List Made) (q cid : ℕ) (st : Status) : Type 0 w
   Stopped : (end : WasCompleted earlier q cid st) → st ≡ ABORTED_SQ_DELETION → IsTrue (list_any (deletes q) (since_fetch q cid end.before)) → CauseOfEnd earlier q cid st
   Lost : WasLost earlier q cid st → CauseOfEnd earlier q cid st
   LostByReset : WasLostByReset earlier q cid st → CauseOfEnd earlier q cid st
+  Unknown : (end : WasCompleted earlier q cid st) → st ≡ INVALID_OPCODE → IsTrue (is_unknown end.completion q cid) → CauseOfEnd earlier q cid st
   WithoutNamespace : (end : WasCompleted earlier q cid st) → st ≡ INVALID_NAMESPACE → IsTrue (misses_namespace end.completion q cid) → CauseOfEnd earlier q cid st
   PastImage : (end : WasCompleted earlier q cid st) → st ≡ LBA_OUT_OF_RANGE → IsTrue (passes_image end.completion q cid) → CauseOfEnd earlier q cid st
   Differed : (end : WasCompleted earlier q cid st) → st ≡ COMPARE_FAILURE → IsTrue (is_compare end.completion q cid) → CauseOfEnd earlier q cid st

@@ -1,13 +1,13 @@
 -- The statuses that completions give, each with its cause, told by the steps before.
 use Rattle.std.specs.{List.list_any, Option.{option_map, option_map_or}}
-use Rattle.std.specs.Prelude.{◌≡◌, ℕ, ◌+◌, ◌==◌, nat_lt, Bool, false, not, ◌&&◌, ◌||◌, IsTrue, Option, Some, None, List, [], ◌∷◌, ◌++◌, if◌then◌else◌}
+use Rattle.std.specs.Prelude.{◌≡◌, ℕ, ◌+◌, ◌==◌, nat_lt, Bool, false, not, ◌&&◌, ◌||◌, is_none, IsTrue, Option, Some, None, List, [], ◌∷◌, ◌++◌, if◌then◌else◌}
 use Rattle.admin_commands.specs.Entries.{named_queue, named_command}
 use Rattle.entry_codec.specs.{Status.is_success, declared.{admin_opcode.TheConstants.{ABORT, DELETE_IO_SQ}, io_opcode.TheConstants.COMPARE, status.Status.Status}}
-use Rattle.entry_codec.specs.declared.status.TheConstants.Status.{ABORT_REQUESTED, ABORTED_SQ_DELETION, INVALID_NAMESPACE, LBA_OUT_OF_RANGE, COMPARE_FAILURE}
+use Rattle.entry_codec.specs.declared.status.TheConstants.Status.{ABORT_REQUESTED, ABORTED_SQ_DELETION, INVALID_OPCODE, INVALID_NAMESPACE, LBA_OUT_OF_RANGE, COMPARE_FAILURE}
 use Rattle.entry_codec.specs.declared.submission.SubEntry.{SubEntry}
 use Rattle.machine_model.specs.{After.{final_status, walks, image_blocks}, Events.{Event, Reply}, Image.Made, Refusals.{job_at, next_rung}, State.{State, Job}}
 use Rattle.machine_model.specs.{Status.same_status, Trusted.TrustedRun}
-use Rattle.io_commands.specs.Jobs.{first_block, block_number}
+use Rattle.io_commands.specs.Jobs.{first_block, block_number, kind_of_opcode}
 use Rattle.machine_model.specs.Events as events
 
 -- What a step is
@@ -44,7 +44,11 @@ deletes q m = option_map_or (λ e. (e.opcode == DELETE_IO_SQ) && (named_queue e 
 abbrev pub job_test : (Job → Bool) → Made → ℕ → ℕ → Bool
 job_test test m q cid = option_map_or test (job_at m.before q cid) false
 
--- the controller has namespace 1 alone
+-- the controller has Reads, Writes and Compares alone
+abbrev pub is_unknown : Made → ℕ → ℕ → Bool
+is_unknown m q cid = job_test (λ j. is_none (kind_of_opcode j.entry.opcode)) m q cid
+
+-- and namespace 1 alone
 abbrev pub misses_namespace : Made → ℕ → ℕ → Bool
 misses_namespace m q cid = job_test (λ j. not (j.entry.nsid == 1)) m q cid
 
@@ -54,7 +58,7 @@ passes_image m q cid = job_test (λ j. nat_lt (image_blocks m.before) (first_blo
 abbrev pub is_compare : Made → ℕ → ℕ → Bool
 is_compare m q cid = job_test (λ j. j.entry.opcode == COMPARE) m q cid
 
--- The six statuses, each with its cause; `earlier` are the steps before, and the command's fetch is the last one of its identifier
+-- The seven statuses, each with its cause; `earlier` are the steps before, and the command's fetch is the last one of its identifier
 abbrev pub since_fetch : ℕ → ℕ → List Made → List Made
 since_fetch q cid [] = []
 since_fetch q cid (m ∷ made) = if list_any (fetches q cid) made then since_fetch q cid made else if fetches q cid m then made else since_fetch q cid made
@@ -64,6 +68,7 @@ has_cause earlier m q cid st =
     is_success st
     || (same_status st ABORT_REQUESTED && list_any (aborts q cid) (since_fetch q cid earlier))
     || (same_status st ABORTED_SQ_DELETION && list_any (deletes q) (since_fetch q cid earlier))
+    || (same_status st INVALID_OPCODE && is_unknown m q cid)
     || (same_status st INVALID_NAMESPACE && misses_namespace m q cid)
     || (same_status st LBA_OUT_OF_RANGE && passes_image m q cid)
     || (same_status st COMPARE_FAILURE && is_compare m q cid)

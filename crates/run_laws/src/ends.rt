@@ -32,9 +32,9 @@ pub fn law_of_retirements()
 /// Where nothing was forged, a command that is collected has the status that its completion gave it, or was lost: it was submitted as its
 /// queue was retired, which had been deleted, or as the controller was reset.
 ///
-/// So it has one of six statuses, each with its cause: it succeeded; an Abort of it was fetched while it was a job, or a deletion of its
-/// queue, or the queue was retired or the controller reset under it; its namespace was another than 1; its blocks passed the image's end;
-/// or a Compare found a difference.
+/// So it has one of seven statuses, each with its cause: it succeeded; an Abort of it was fetched while it was a job, or a deletion of its
+/// queue, or the queue was retired or the controller reset under it; the controller does not have its opcode; its namespace was another
+/// than 1; its blocks passed the image's end; or a Compare found a difference.
 ///
 /// And it has no hints.
 pub fn law_of_collects()

@@ -131,6 +131,12 @@ pub(crate) fn kind(word: &[u8]) -> Option<Kind>
         Some(Kind::Write)
     } else if word == "compare".as_bytes() {
         Some(Kind::Compare)
+    } else if word == "write_zeroes".as_bytes() {
+        Some(Kind::WriteZeroes)
+    } else if word == "verify".as_bytes() {
+        Some(Kind::Verify)
+    } else if word == "flush".as_bytes() {
+        Some(Kind::Flush)
     } else {
         None
     }

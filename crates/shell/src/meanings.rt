@@ -149,7 +149,10 @@ pub const FAULTS: [(&str, &str); 15] = [
         "the first word is no verb; nvmesgl grammar prints all",
     ),
     ("MissingWord", "the line lacks a word that its verb wants"),
-    ("BadKind", "a kind is read, write or compare"),
+    (
+        "BadKind",
+        "a kind is read, write, compare, write_zeroes, verify or flush",
+    ),
     (
         "BadNumber",
         "a number has 1 to 20 decimal digits, and is small enough for its place",

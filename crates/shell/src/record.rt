@@ -14,6 +14,9 @@ fn kind_name(kind: Kind) -> &'static str {
         Kind::Read => "read",
         Kind::Write => "write",
         Kind::Compare => "compare",
+        Kind::WriteZeroes => "write_zeroes",
+        Kind::Verify => "verify",
+        Kind::Flush => "flush",
     }
 }
 

@@ -92,6 +92,9 @@ io_opcode_name opcode =
     if opcode == io.WRITE then codes "Write"
     else if opcode == io.READ then codes "Read"
     else if opcode == io.COMPARE then codes "Compare"
+    else if opcode == io.WRITE_ZEROES then codes "Write Zeroes"
+    else if opcode == io.VERIFY then codes "Verify"
+    else if opcode == io.FLUSH then codes "Flush"
     else codes "no command of this profile"
 
 unfoldable pub opcode_name : ℕ → ℕ → List ℕ

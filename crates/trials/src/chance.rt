@@ -31,12 +31,15 @@ pub fn config(random: &mut SplitMix64) -> Config
     }
 }
 
-/// Which command.
+/// Which command; one in five moves no data.
 fn kind(random: &mut SplitMix64) -> Kind {
-    match random.up_to(2) {
-        0 => Kind::Read,
-        1 => Kind::Write,
-        _ => Kind::Compare,
+    match random.up_to(14) {
+        0..=3 => Kind::Read,
+        4..=7 => Kind::Write,
+        8..=11 => Kind::Compare,
+        12 => Kind::WriteZeroes,
+        13 => Kind::Verify,
+        _ => Kind::Flush,
     }
 }
 
@@ -92,7 +95,12 @@ fn pieces(
 /// A request.
 pub fn request(alloc: Global, random: &mut SplitMix64) -> Result<Request, AllocError> {
     let kind = kind(random);
-    let blocks = random.up_to(4) + 1;
+    let blocks = if matches!(kind, Kind::Flush) {
+        0
+    } else {
+        random.up_to(4) + 1
+    };
+    let bytes = if kind.moves_data() { blocks * 512 } else { 0 };
     // A few pass the end of the image.
     let slba = if random.up_to(255) == 0 {
         random.draw()
@@ -104,13 +112,13 @@ pub fn request(alloc: Global, random: &mut SplitMix64) -> Result<Request, AllocE
         nsid: 1,
         flags: Flags::NONE,
         slba,
-        // A few requests have no blocks, or too many.
+        // A few requests have none, or too many.
         blocks: match random.up_to(63) {
             0 => 0,
             1 => 2_049,
             _ => u32::from(blocks),
         },
-        pieces: pieces(alloc, random, kind, blocks * 512)?,
+        pieces: pieces(alloc, random, kind, bytes)?,
     })
 }
 

@@ -16,7 +16,7 @@ use Rattle.controller_walk.specs.{Along.{taken, parts_taken}, Laws.{ReadsWithin,
 use Rattle.controller_walk.specs.Units.{Stays, Reads, Moves, Course, Closes, Does, after_read, from_place, rest_of, goes_on, unless_fault, first_fault, moving, first_part, pages_spanned, entry_cursor, next, segment_start, course_of_list, named_on, named_last, verdict, names_no_segment, passes_end, Act, touched, units}
 use Rattle.controller_walk.specs.declared.cursor.{Cursor.Cursor, Named.{Named, TheVariants.{Unnamed, BySegment, ByLastSegment}}}
 use Rattle.controller_walk.specs.declared.walk.WalkState.TheVariants.{End, Fault}
-use Rattle.machine_model.specs.Reached.{only, LiesIn, CourseIn, IsThere, on_pages, ActIn}
+use Rattle.machine_model.specs.Reached.{only, LiesIn, CourseIn, IsThere, on_pages, ActIn, AreApart, KeepsToPages}
 use Rattle.two_sides.specs.Lists.{lists_end_well, long_lists_end_well, lists_keep_to_their_pages}
 use Rattle.page_ledger.specs.Owners.{is_among}
 
@@ -527,13 +527,15 @@ touches_in : (chain_pages data_pages : List ℕ) (c : Course) → CourseIn (on_p
 touches_in chain_pages data_pages (Closes v) h = tt
 touches_in chain_pages data_pages (Does a rest) h = (act_touches chain_pages data_pages a h.0, touches_in chain_pages data_pages rest h.1)
 
+pub keeps_in : (chain_pages data_pages : List ℕ) (c : Course) → AreApart chain_pages data_pages → CourseIn (on_pages chain_pages) (on_pages data_pages) c → KeepsToPages chain_pages data_pages c
+keeps_in chain_pages data_pages c apart inside = record {
+  reads = reads_in (on_pages chain_pages) (on_pages data_pages) c inside;
+  moves = moves_out (on_pages chain_pages) (on_pages data_pages) (λ place own. apart (page_of place) own) c inside;
+  units_in = inside;
+  touches = touches_in chain_pages data_pages c inside;
+}
+
 pub lists_keep : lists_keep_to_their_pages
 lists_keep chain_pages data_pages m sgl1 parts dir need apart list =
-    let c = course_of_list m sgl1 dir need in
-    let inside : CourseIn (on_pages chain_pages) (on_pages data_pages) c = list_in (on_pages chain_pages) (on_pages data_pages) m sgl1 list.first parts dir need list.spelled list.spells list.parts_lie in
-    record {
-      reads = reads_in (on_pages chain_pages) (on_pages data_pages) c inside;
-      moves = moves_out (on_pages chain_pages) (on_pages data_pages) (λ place own. apart (page_of place) own) c inside;
-      units_in = inside;
-      touches = touches_in chain_pages data_pages c inside;
-    }
+    keeps_in chain_pages data_pages (course_of_list m sgl1 dir need) apart
+    (list_in (on_pages chain_pages) (on_pages data_pages) m sgl1 list.first parts dir need list.spelled list.spells list.parts_lie)

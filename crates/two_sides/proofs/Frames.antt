@@ -9,7 +9,7 @@ use Rattle.machine_model.specs.{Events.{Event, Reply}, Memory.{is_in, memory_of}
 use Rattle.machine_model.specs.Refusals.{has_cq, in_service, is_making_cq, is_reaped, served_queue, is_submitted}
 use Rattle.machine_model.specs.{State.{HostQueue, Record, pages_of, ServedQueue, State, Job, PostedCompletion}, Step.times, declared.words.HostState.HostState}
 use Rattle.two_sides.proofs.{Agreed.stood_of, JobLaws.stay_after, NeverFull.ListsStay, Provided.{In, in_at, all_indexed}}
-use Rattle.two_sides.proofs.Served.{Stood, job_list, serves_in, course_in, course_ends, counts_sent, page_there}
+use Rattle.two_sides.proofs.Served.{Stood, job_list, serves_in, course_in, course_over, counts_sent, page_there}
 use Rattle.two_sides.proofs.Untouched.{among_counts, holds_left as among_left, holds_right as among_right, sent_page}
 use Rattle.two_sides.specs.Sides.{Sides, state_of, served_queue_of, served_queues_of, job_of, present, posted_completion, unfetched_between, completions_between}
 use Rattle.two_sides.specs.Ties.{AreSides, AreTied, IsOwned, IsWorld, ShareQueue, ShareQueues, RingsStand, QueueStands, AllQueuesStand, first_completion_page, has_ring, WalkStands, WalksStand, HeadsFollow, ShareHalves}
@@ -258,7 +258,7 @@ stands_again m other done job serves stands =
 pub job_served : (s : State) (m : Pages) (k : ℕ) (j : Job) → Stood s → ListsStay s m → slice_get s.controller.jobs k ≡ Some j → (j.q == 0) ≡ false → Serves (memory_of s.memory) (memory_of m) (course_of s j)
 job_served s m k j stood stay at other =
     let l = job_list s stood j (in_at s.controller.jobs k j at) other (λ P all. all-at P s.controller.jobs k j at all) in
-    serves_in s.memory m l.command.chain_pages l.command.data_pages (stay.chains l.command l.within l.phase) (stay.own l.command l.within l.phase) (course_of s j) (course_in s j l) (course_ends s stood j l)
+    serves_in s.memory m l.command.chain_pages l.command.data_pages (stay.chains l.command l.within l.phase) (stay.own l.command l.within l.phase) (course_of s j) (course_in s j l) (course_over s stood j l).1
 
 pub still_stands : (s : Sides) (pages : Pages) → IsWorld s → s.trusted ≡ true → ListsStay (state_of s) pages → WalksStand (memory_of pages) s.controller.commands
 still_stands s pages world t stay =

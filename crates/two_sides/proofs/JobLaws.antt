@@ -10,7 +10,7 @@ use Rattle.page_memory.specs.declared.page.Half.TheVariants.{Submission, Complet
 use Rattle.sgl_descriptor.specs.{Spelling.{descriptor_of, spelling}, declared.{Direction.{Direction, TheVariants.{Destination, Source}}, Part.Part}}
 use Rattle.controller_walk.{proofs.Along.list_moves_along, specs.Along.{MovesAlong, taken, descriptor_at}}
 use Rattle.controller_walk.specs.{Units.{Stays, Reads, Moves, Course, Closes, Does, units, Act, touched}, declared.walk.WalkState.WalkState}
-use Rattle.io_commands.{proofs.Building.carries_entry, specs.{Drafts.{io_entry, DraftContents, draft_first}, Jobs.{direction_of_entry, need_of_entry}}}
+use Rattle.io_commands.{proofs.{Building.carries_entry, Pointers.length-pointer_of}, specs.{Drafts.{io_entry, pointer_of, DraftContents, draft_first}, Jobs.{direction_of_entry, need_of_entry}}}
 use Rattle.io_commands.specs.{Requests.joined_parts, Values.numbers_of}
 use Rattle.block_image.specs.Blocks.{with_blocks}
 use Rattle.machine_model.proofs.Moves.{host_moves, posted_bytes, sends, sent_record, half_from, creates_cq, creates_sq, grants_cq, grants_sq}
@@ -30,9 +30,9 @@ use Rattle.entry_codec.specs.declared.{status.{Status.Status, TheConstants.Statu
 use Rattle.entry_codec.specs.declared.hints.TheConstants.Hints.{NONE}
 use Rattle.two_sides.proofs.{Along.along_proper, Commands.{keeps_fetch, keeps_walk, keeps_complete, Walking, walking, unit_in}}
 use Rattle.two_sides.proofs.ControllerMoves.{linked_from_tied, completed_bytes, unit_memory, finished, cleared, fetch_by, walk_by, complete_by}
-use Rattle.two_sides.proofs.{Ending.{lists_keep, act_touches}, NeverFull.{stood_on, stood_at_opening, ListsStay, stay_untouched, stay_walk}}
+use Rattle.two_sides.proofs.{Ending.{keeps_in, act_touches}, NeverFull.{stood_on, stood_at_opening, ListsStay, stay_untouched, stay_walk}}
 use Rattle.two_sides.proofs.{PoolBytes.host_jobs, Provided.{in_found, all_append}}
-use Rattle.two_sides.proofs.Served.{Stood, JobList, job_list, list_of_job, course_in, course_ends, same_list, apart_in, chain_of, data_of, more_than_only}
+use Rattle.two_sides.proofs.Served.{Stood, JobList, job_list, course_in, course_ends, same_list, apart_in, chain_of, data_of, more_than_only}
 use Rattle.two_sides.proofs.{Standing.forged_untrusted, Tied.tied_from_fit, Untouched.{holds_left as among_left, holds_right as among_right, stays}}
 use Rattle.two_sides.specs.MachineLaws.{HasChainIfIo, entries_of}
 use Rattle.admin_commands.specs.{Entries.{admin_entry, named_queue}, declared.AdminKind.{AdminKind, TheVariants.{Abort, DeleteSq, DeleteCq}}}
@@ -150,8 +150,8 @@ stood_has_chains end stood q cid r found sub =
         let l = c.1 sub in
         record {
           first = l.first;
-          spells = spells_there (only (on_pages r.chain_pages) (byte_at end.memory)) (byte_at end.memory) (more_than_only (on_pages r.chain_pages) (byte_at end.memory)) l.first (joined_parts request.pieces r.data_pages) l.spells;
-          named = all-to (λ e. e.sgl1 ≡ spelling l.first) (entries_of end r.q r.cid) (entries_named end r.q r.cid (io_entry r.cid request (spelling l.first)) l.entry);
+          spells = λ moves. spells_there (only (on_pages r.chain_pages) (byte_at end.memory)) (byte_at end.memory) (more_than_only (on_pages r.chain_pages) (byte_at end.memory)) l.first (joined_parts request.pieces r.data_pages) (l.spells moves);
+          named = all-to (λ e. e.sgl1 ≡ pointer_of request.kind (spelling l.first)) (entries_of end r.q r.cid) (entries_named end r.q r.cid (io_entry r.cid request (spelling l.first)) l.entry);
         }
     of (Management adm) c = tt
 
@@ -193,9 +193,8 @@ stood_has_jobs end stood q cid j some e =
       sized = l.sized;
       list = l.list;
       entry = l.entry;
-      keeps = lists_keep l.command.chain_pages l.command.data_pages (memory_of end.memory) j.entry.sgl1 (joined_parts l.request.pieces l.command.data_pages) (direction_of_entry j.entry) (need_of_entry j.entry)
-          (apart_in end stood.grounds l.command l.within) (list_of_job end j l);
-      ends = course_ends end stood j l;
+      keeps = keeps_in l.command.chain_pages l.command.data_pages (course_of end j) (apart_in end stood.grounds l.command l.within) (course_in end j l);
+      ends = λ moves. course_ends end stood j l moves;
       unit_left = all-found (HasUnitLeft end) (is_job q cid) end.controller.jobs j e stood.walks (ap (λ (k : ℕ). k == 0) (eqb-true j.q q ids.0) ∙ not_zero q some);
     }
 
@@ -345,7 +344,7 @@ length-completion_bytes entry = refl
 -- the entry of a proper draft, and that of an admin command
 draft_length : (d : DraftContents) (entry : SubEntry) → IsProperDraft d → d.entry ≡ Some entry → length (submission_bytes entry) ≡ 64
 draft_length d entry proper e =
-    length-submission_bytes entry (ap (λ (x : SubEntry). length x.sgl1) (carries_entry d entry proper.draft e) ∙ length-spelling (draft_first d))
+    length-submission_bytes entry (ap (λ (x : SubEntry). length x.sgl1) (carries_entry d entry proper.draft e) ∙ length-pointer_of d.request.kind (spelling (draft_first d)) (length-spelling (draft_first d)))
 
 -- What the host does
 

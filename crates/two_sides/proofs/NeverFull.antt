@@ -2,12 +2,12 @@
 use Rattle.machine_model.specs.After as a
 use Rattle.machine_model.specs.Events as events
 use Rattle.machine_model.specs.declared.words.Refusal.TheVariants as refusal
-use Rattle.std.proofs.Common.{◌≡◌, ℕ, zero, suc, ◌+◌, ◌<◌, ◌≤◌, ◌==◌, Bool, true, false, not, ◌&&◌, Some, None, List, [], ◌∷◌, length, map, slice_get, is_some, is_none, if◌then◌else◌, refl, ap, sym, ◌∙◌, arith, subst, replicate, inl, inr, ◌-◌, nat_lt, nat_le, Option, ◌++◌, All, IsTrue, ltb-true}
+use Rattle.std.proofs.Common.{◌≡◌, ℕ, zero, suc, ◌+◌, ◌<◌, ◌≤◌, ◌==◌, Bool, true, false, not, ◌&&◌, Some, None, List, [], ◌∷◌, length, map, slice_get, is_some, is_none, if◌then◌else◌, refl, ap, sym, ◌∙◌, arith, subst, replicate, inl, inr, ◌-◌, nat_lt, nat_le, Option, ◌++◌, All, IsTrue, ltb-true, ◌≢◌}
 use Rattle.std.proofs.lemmas.{Bool.{true≢false, cases_Bool, not-false, and_parts, or_parts, Decides.nat_tests}, List.length-replicate}
 use Rattle.std.{proofs.lemmas.List.Elements.{All-nil, All-cons}, specs.{List.AllByRecursion, Option.option_map_or}}
 use Rattle.page_ledger.specs.Owners.{is_among}
 use Rattle.controller_walk.specs.{Laws.after_units, Units.{Act, Course, Closes, Does, units, verdict, course_of_list, first_passing}, Walks.answer}
-use Rattle.controller_walk.specs.declared.walk.WalkState.TheVariants.{End}
+use Rattle.controller_walk.specs.declared.walk.WalkState.{WalkState, TheVariants.{More, End, Fault}}
 use Rattle.admin_commands.specs.{Entries.{named_queue, named_command}, Verdicts.is_absent, declared.SqState.TheVariants.Stopping}
 use Rattle.entry_codec.specs.declared.status.{Status.Status, TheConstants.Status.{SUCCESS, ABORT_REQUESTED, ABORTED_SQ_DELETION}}
 use Rattle.entry_codec.specs.declared.submission.SubEntry.{SubEntry}
@@ -29,7 +29,7 @@ use Rattle.two_sides.proofs.ControllerMoves.{unit_done, fetch_by, walk_by, compl
 use Rattle.two_sides.proofs.Heads.{sent_outstanding, few_outstanding, length_outstanding, total_ones, HeadsS, drafted_room, heads_event, heads_at_opening, no_conflict}
 use Rattle.two_sides.proofs.PlacesKept.{places_event, drafted_not, in_hand}
 use Rattle.two_sides.proofs.Provided.{In, in_at, all_indexed, all_in_both, all_map, all_append, only_found, in_found}
-use Rattle.two_sides.proofs.{Served.{Stood, job_list, same_list, course_ends, counts_sent, chain_of, data_of, page_there, page_below}, Tied.tied_from_fit}
+use Rattle.two_sides.proofs.{Served.{Stood, job_list, same_list, course_over, counts_sent, chain_of, data_of, page_there, page_below}, Tied.tied_from_fit}
 use Rattle.two_sides.proofs.TiedAll.{grounds_on, grounds_at_opening, Grounds}
 use Rattle.two_sides.proofs.Untouched.{is_walk, fetch_stays_in, post_stays_in, rung_there, untouched, live_queue, owned_once}
 use Rattle.two_sides.specs.MachineLaws.{is_full, rings_are_never_full}
@@ -127,9 +127,14 @@ units_complete m q cid s h =
 -- Walking
 
 -- a step that has no verdict leaves a unit to do
-more_left : (c : Course) (k : ℕ) → verdict c ≡ End → verdict_of (answer (after_units k c)) ≡ None → k < length (units c)
-more_left (Closes v) zero e h = absurd (let ended : verdict_of End ≡ None = ap verdict_of (sym e) ∙ h in some_none ended)
-more_left (Closes v) (suc k) e h = absurd (let ended : verdict_of End ≡ None = ap verdict_of (sym e) ∙ h in some_none ended)
+is_more : (v : WalkState) → verdict_of v ≡ None → v ≡ More
+is_more More h = refl
+is_more End h = absurd (some_none h)
+is_more (Fault status) h = absurd (some_none h)
+
+more_left : (c : Course) (k : ℕ) → verdict c ≢ More → verdict_of (answer (after_units k c)) ≡ None → k < length (units c)
+more_left (Closes v) zero over h = absurd (over (is_more v h))
+more_left (Closes v) (suc k) over h = absurd (over (is_more v h))
 more_left (Does x rest) zero e h = omega arith
 more_left (Does x rest) (suc k) e h = omega (arith, more_left rest k e h)
 
@@ -168,7 +173,7 @@ units_walk q cid s none stood h =
 
     stepped : (j : Job) → Walking s q cid j → UnitLeft (a.after_walk q cid s).memory (record j { units_done = j.units_done + 1; verdict = verdict_of (a.next_answer s j) })
     stepped j w other more =
-        subst (λ (c : Course). j.units_done + 1 < length (units c)) (sym (stays j w)) (more_left (course_of s j) (j.units_done + 1) (course_ends s stood j w.list) more)
+        subst (λ (c : Course). j.units_done + 1 < length (units c)) (sym (stays j w)) (more_left (course_of s j) (j.units_done + 1) (course_over s stood j w.list).0 more)
 
     each : (f : Job → Job) (k : Job) (b : Bool) → is_job q cid k ≡ b → Either (a.after_walk q cid s).memory q cid f k → UnitLeft (a.after_walk q cid s).memory (if b then f k else k)
     each f k true t left = left.1 t

@@ -1,12 +1,12 @@
 -- Entries that are posted and taken.
-use Rattle.std.proofs.Common.{◌≡◌, ℕ, zero, suc, ◌^◌, ◌<◌, ◌%◌, List, [], ◌∷◌, Some, refl, sym, arith, subst, ◌≢◌, ◌+◌, ◌*◌, ◌/◌, ◌≤◌, ◌++◌, Bool, true, false, Option, None, IsSome, IfSome, length, map, slice_get, if◌then◌else◌, ap, ap₂, ◌∙◌, length-append, inl, inr, ◌-◌, drop}
+use Rattle.std.proofs.Common.{◌≡◌, ℕ, zero, suc, ◌^◌, ◌<◌, ◌%◌, List, [], ◌∷◌, Some, refl, sym, arith, subst, ◌≢◌, ◌+◌, ◌*◌, ◌/◌, ◌≤◌, ◌++◌, Bool, true, false, Option, None, IsSome, IfSome, length, map, slice_get, if◌then◌else◌, ap, ap₂, ◌∙◌, length-append, inl, inr, ◌-◌, drop, replicate}
 use Rattle.std.{proofs.lemmas.Bool.{true≢false, OnTrue_at, Decides.nat_tests}, specs.{List.AllByRecursion, Option.option_map, Prelude.slice_index}}
 use Rattle.admin_commands.specs.{Entries.{admin_entry, base_of, named_by, pointer_to, qualified_by}, Verdicts.{is_absent, is_live}}
 use Rattle.admin_commands.specs.declared.{AdminKind.AdminKind, SqState.SqState}
 use Rattle.entry_codec.{proofs.SubmissionLemmas.round_trip, specs.Bytes.IsBytes}
 use Rattle.entry_codec.specs.{Submission.{FitsSubmission, IsSubEntry, command_words, submission_bytes, submission_of}, declared.completion.ComEntry.ComEntry}
 use Rattle.entry_codec.specs.declared.submission.SubEntry.{SubEntry}
-use Rattle.io_commands.{proofs.Building.{carries_entry, few_blocks, flags_fit}, specs.Drafts.{DraftContents, draft_first}}
+use Rattle.io_commands.{proofs.{Building.{carries_entry, few_blocks, flags_fit}, Pointers.psdt_fits}, specs.{Drafts.{DraftContents, draft_first, pointer_of}, Requests.moves_data, declared.request.Kind.Kind}}
 use Rattle.machine_model.specs.{Memory.memory_of, Proper.IsProperDraft, Refusals.{slot_page, slot_offset}}
 use Rattle.machine_model.specs.State.{HostQueue, ServedQueue}
 use Rattle.sgl_descriptor.specs.{Spelling.{spelling, descriptor_bytes}, declared.Descriptor.Descriptor}
@@ -68,6 +68,14 @@ pointer_is_bytes address =
           (byte _, (byte _, (byte _, (byte _, (byte _, (byte _, (byte _, (byte _, (zero_byte, (zero_byte, (zero_byte, (zero_byte, (zero_byte, (zero_byte, (zero_byte, (zero_byte, tt))))))))))))))));
     }
 
+-- a command that moves no data has zeros there
+pointer_in_bytes : (kind : Kind) (sgl1 : List ℕ) → IsBytes 16 sgl1 → IsBytes 16 (pointer_of kind sgl1)
+pointer_in_bytes kind sgl1 bytes = go (moves_data kind)
+  where
+    go : (moves : Bool) → IsBytes 16 (if moves then sgl1 else replicate 16 0)
+    go true = bytes
+    go false = descriptor_is_bytes 0 0 0 (omega arith)
+
 -- The entries
 
 pub draft_typed : (d : DraftContents) (entry : SubEntry) → IsProperDraft d → d.cid < 2 ^ 16 → d.entry ≡ Some entry → IsTyped entry
@@ -79,7 +87,7 @@ draft_typed d entry proper cid built =
         cid = cid;
         nsid = request.nsid;
         mptr = omega arith;
-        sgl1 = spelled_in_bytes (draft_first d);
+        sgl1 = pointer_in_bytes d.request.kind (spelling (draft_first d)) (spelled_in_bytes (draft_first d));
         cdw10 = omega arith;
         cdw11 = omega (arith, request.slba);
         cdw12 = omega (arith, few_blocks d.request.kind d.request.blocks d.request.pieces proper.draft.good, flags_fit d.request.flags);
@@ -87,7 +95,7 @@ draft_typed d entry proper cid built =
         cdw14 = omega arith;
         cdw15 = omega arith;
       };
-      fits = record { fuse = omega arith; psdt = omega arith };
+      fits = record { fuse = omega arith; psdt = psdt_fits (moves_data d.request.kind) };
     })
 
 pub admin_typed : (kind : AdminKind) (cid : ℕ) → cid < 2 ^ 16 → named_by kind < 2 ^ 32 → qualified_by kind < 2 ^ 32 → IsTyped (admin_entry kind cid)

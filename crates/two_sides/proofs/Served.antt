@@ -1,19 +1,19 @@
 -- What is served was submitted.
 use Rattle.machine_model.specs.Events as events
 use Rattle.machine_model.specs.declared.words.Refusal.TheVariants as refusal
-use Rattle.std.proofs.Common.{◌≡◌, ℕ, ◌+◌, ◌*◌, ◌%◌, ◌<◌, ◌≤◌, ◌==◌, nat_lt, true, false, not, ◌||◌, Option, Some, None, List, [], ◌∷◌, length, is_some, slice_index, All, refl, ap₂, sym, ◌∙◌, arith, subst, eq-eqb, ◌-◌, ◌^◌, ◌⊎◌, inl, inr, Bool, if◌then◌else◌, zero, suc, ◌++◌, slice_get, find, ap, eqb-true, ltb-true, nat_le, ◌&&◌, slice_set, length-set, IfSome, MatchBool}
+use Rattle.std.proofs.Common.{◌≡◌, ℕ, ◌+◌, ◌*◌, ◌%◌, ◌<◌, ◌≤◌, ◌==◌, nat_lt, true, false, not, ◌||◌, Option, Some, None, List, [], ◌∷◌, length, is_some, slice_index, All, refl, ap₂, sym, ◌∙◌, arith, subst, eq-eqb, ◌-◌, ◌^◌, ◌⊎◌, inl, inr, Bool, if◌then◌else◌, zero, suc, ◌++◌, slice_get, find, ap, eqb-true, ltb-true, nat_le, ◌&&◌, slice_set, length-set, IfSome, MatchBool, ◌≢◌, replicate, min, nat_eq}
 use Rattle.std.proofs.lemmas.{Bool.{or_left, or_right, or_parts, cases_lt, true≢false, and_parts, cases_Bool, not-false, Decides.nat_tests}, Grind.common_steps}
 use Rattle.std.proofs.lemmas.{List.{Elements.{All-head, All-tail, All-nil, All-cons}, Sums.sum_by-cons}, Option.{slice_get-get_or, slice_get_within}}
 use Rattle.std.specs.{Bool.beq, List.{AllByRecursion, list_any}, Option.option_map_or, Prelude.{option_map, option_and_then}}
 use Rattle.page_ledger.specs.Owners.{is_among}
 use Rattle.page_memory.{proofs.Bytes.{byte_in, length-zero_page}, specs.{Memory.{page_of, Memory}, Pages.{Pages, page_at, byte_at, zero_page, AreWhole}}}
 use Rattle.sgl_descriptor.{proofs.Spells.reads_itself, specs.{Spelling.{Fits, spelling, descriptor_of}, Targets.{counted_in, descriptor_of_part, targets}}}
-use Rattle.sgl_descriptor.specs.declared.{Descriptor.TheVariants.{Segment, LastSegment}, Part.{Part, TheVariants.Data as PartData}}
-use Rattle.io_commands.{proofs.Building.{entry_blocks, joined_parts_few, built_drafts_spell, few_pieces}, specs.Asked.Request}
+use Rattle.sgl_descriptor.specs.declared.{Descriptor.{Descriptor, TheVariants.{DataBlock, Segment, LastSegment}}, Direction.Direction, Part.{Part, TheVariants.Data as PartData}}
+use Rattle.io_commands.{proofs.{Building.{counted, entry_blocks, joined_parts_few, built_drafts_spell, few_pieces, no_pieces}, Pointers.{pointer_moves, pointer_still}}, specs.Asked.Request}
 use Rattle.io_commands.specs.Drafts.{io_entry, DraftContents, HoldsPages, draft_first, draft_parts, IsDraft, IsBuiltIfAny}
 use Rattle.io_commands.specs.Jobs.{direction_of_entry, need_of_entry}
-use Rattle.io_commands.specs.Requests.{parts_of, data_count, is_empty_piece, crosses_page, counted_length, counted_lengths, direction_of, FitsPiece, joined_parts, FitsRequest, fault_of}
-use Rattle.io_commands.specs.{Values.{IsGood, numbers_of, FinishedContents}, declared.request.{Flags.Flags, Kind.{Kind, TheVariants.{Read, Write, Compare}}, Piece.Piece}}
+use Rattle.io_commands.specs.Requests.{parts_of, data_count, is_empty_piece, crosses_page, counted_length, counted_lengths, is_count, moves_data, need_of, direction_of, FitsPiece, joined_parts, FitsRequest, fault_of}
+use Rattle.io_commands.specs.{Values.{IsGood, numbers_of, FinishedContents}, declared.request.{Flags.Flags, Kind.{Kind, TheVariants.{Read, Write, Compare, WriteZeroes, Verify, Flush}}, Piece.Piece}}
 use Rattle.io_commands.specs.declared.request.{Piece.TheVariants.{Data, Bucket}, RequestFault.RequestFault}
 use Rattle.io_commands.specs.declared.request.RequestFault.TheVariants.{TooManyPieces, EmptyPiece, CrossesPage, BadCount, LengthMismatch}
 use Rattle.machine_model.proofs.Counting.{times-append, held_once, times-cons}
@@ -27,9 +27,9 @@ use Rattle.machine_model.specs.{Step.{times, IsReserved, AnswersAnything, asked_
 use Rattle.machine_model.specs.declared.words.{Phase.TheVariants.{Drafted, Submitted, Held, Collected}, Refusal.Refusal, Work.TheVariants.{Io, Management}}
 use Rattle.sgl_chain.proofs.{Back.spells_there, Joins.{joined_from, from_list, same_targets, same_count}, Spelled.spells}
 use Rattle.sgl_chain.specs.{Chains.{first_of, pages_needed}, Joining.{joins, both, joined}, Laws.HasBytesOf, Spells.{Spells, Holds}}
-use Rattle.controller_walk.{proofs.Same.list_served, specs.{Along.parts_of_list, Serving.Serves, Units.{Stays, Reads, Moves, Course, Closes, Does, verdict}}}
-use Rattle.controller_walk.specs.declared.walk.WalkState.TheVariants.{End}
-use Rattle.entry_codec.specs.declared.{status.Status.Status, submission.SubEntry.SubEntry}
+use Rattle.controller_walk.{proofs.Same.list_served, specs.{Along.parts_of_list, Serving.Serves, Units.{Stays, Reads, Moves, Course, Closes, Does, verdict, after_read, course_of_list, entry_cursor, moving, pages_spanned, rest_of}}}
+use Rattle.controller_walk.specs.declared.walk.WalkState.{WalkState, TheVariants.{More, End, Fault}}
+use Rattle.entry_codec.specs.declared.{status.{Status.Status, TheConstants.Status.{DATA_TRANSFER_ERROR, DATA_SGL_LENGTH_INVALID}}, submission.SubEntry.SubEntry}
 use Rattle.two_sides.proofs.{Ending.{list_in, lists_end, bytes_there}, Provided.{In, in_found, sent_found}, TiedAll.Grounds}
 use Rattle.two_sides.proofs.Untouched.{sent_page, owned_once, among_counts, holds_right, holds_left, holds_right as among_right}
 use Rattle.two_sides.specs.InOrder.{IsInOrder, reserved_drafts_are_proper, collected_commands_are_proper}
@@ -43,25 +43,17 @@ pub use Rattle.machine_model.specs.Agreeing.{is_out_of_service_at as past_at, co
 -- what a request that passes its check is
 pub record Good (r : Request) : Type 0 where
   pub crosses : list_any crosses_page r.pieces ≡ false
-  pub some : 0 < r.blocks
-  pub few : r.blocks ≤ 2048
-  pub counted : counted_lengths r.kind r.pieces ≡ 512 * r.blocks
+  pub counted : counted_lengths r.kind r.pieces ≡ need_of r.kind r.blocks
 
 pub good_is : (r : Request) → IsGood r → Good r
 good_is r h =
-    let last = (not (counted_lengths r.kind r.pieces == 512 * r.blocks), LengthMismatch) ∷ [] in
-    let fourth = ((r.blocks == 0) || nat_lt 2048 r.blocks, BadCount) ∷ (not (counted_lengths r.kind r.pieces == 512 * r.blocks), LengthMismatch) ∷ [] in
-    let third = (list_any crosses_page r.pieces, CrossesPage) ∷ ((r.blocks == 0) || nat_lt 2048 r.blocks, BadCount) ∷ (not (counted_lengths r.kind r.pieces == 512 * r.blocks), LengthMismatch) ∷ [] in
+    let fourth = (not (is_count r.kind r.blocks), BadCount) ∷ (not (counted_lengths r.kind r.pieces == need_of r.kind r.blocks), LengthMismatch) ∷ [] in
+    let third = (list_any crosses_page r.pieces, CrossesPage) ∷ fourth in
     let second = (list_any is_empty_piece r.pieces, EmptyPiece) ∷ third in
-    let h3 = rest_fails (list_any is_empty_piece r.pieces) EmptyPiece third (rest_fails (nat_lt 1024 (length r.pieces)) TooManyPieces second h) in
-    let h4 = rest_fails (list_any crosses_page r.pieces) CrossesPage fourth h3 in
-    let h5 = rest_fails ((r.blocks == 0) || nat_lt 2048 r.blocks) BadCount last h4 in
-    let bad = first_fails ((r.blocks == 0) || nat_lt 2048 r.blocks) BadCount last h4 in
     record {
-      crosses = first_fails (list_any crosses_page r.pieces) CrossesPage fourth h3;
-      some = grind (arith, nat_tests);
-      few = grind (arith, nat_tests);
-      counted = (let e = first_fails (not (counted_lengths r.kind r.pieces == 512 * r.blocks)) LengthMismatch [] h5 in grind (arith, nat_tests));
+      crosses = first_fails (list_any crosses_page r.pieces) CrossesPage fourth
+          (rest_fails (list_any is_empty_piece r.pieces) EmptyPiece third (rest_fails (nat_lt 1024 (length r.pieces)) TooManyPieces second h));
+      counted = counted r.kind r.blocks r.pieces h;
     }
 
 -- The entry moves the request's bytes in its direction
@@ -69,25 +61,33 @@ good_is r h =
 pub entry_direction : (cid : ℕ) (r : Request) (sgl1 : List ℕ) → direction_of_entry (io_entry cid r sgl1) ≡ direction_of r.kind
 entry_direction cid r sgl1 = grind arith
 
-pub entry_need : (cid : ℕ) (r : Request) (sgl1 : List ℕ) → IsGood r → need_of_entry (io_entry cid r sgl1) ≡ 512 * r.blocks
-entry_need cid r sgl1 good = ap (λ (n : ℕ). 512 * n) (entry_blocks cid r sgl1 good)
+pub entry_need : (cid : ℕ) (r : Request) (sgl1 : List ℕ) → IsGood r → moves_data r.kind ≡ true → need_of_entry (io_entry cid r sgl1) ≡ need_of r.kind r.blocks
+entry_need cid r sgl1 good moves = ap (λ (n : ℕ). 512 * n) (entry_blocks cid r sgl1 good moves) ∙ sym (ap (λ (b : Bool). if b then 512 * r.blocks else 0) moves)
 
 -- The parts of its pieces
 
-counted_parts : (kind : Kind) (pieces : List Piece) (pages : List ℕ) → data_count pieces ≤ length pages → counted_in (direction_of kind) (parts_of pieces pages) ≡ counted_lengths kind pieces
-counted_parts kind [] pages few = refl
-counted_parts kind (Bucket len ∷ pieces) pages few = go kind (counted_parts kind pieces pages (grind (arith, common_steps)))
+counted_parts : (kind : Kind) → moves_data kind ≡ true → (pieces : List Piece) (pages : List ℕ) → data_count pieces ≤ length pages
+    → counted_in (direction_of kind) (parts_of pieces pages) ≡ counted_lengths kind pieces
+counted_parts kind moves [] pages few = refl
+counted_parts kind moves (Bucket len ∷ pieces) pages few = go kind moves (counted_parts kind moves pieces pages (grind (arith, common_steps)))
   where
-    go : (k : Kind) → counted_in (direction_of k) (parts_of pieces pages) ≡ counted_lengths k pieces → counted_in (direction_of k) (parts_of (Bucket len ∷ pieces) pages) ≡ counted_lengths k (Bucket len ∷ pieces)
-    go Read ih = omega (arith, ih, sum_by-cons (counted_length Read) (Bucket len) pieces)
-    go Write ih = omega (arith, ih, sum_by-cons (counted_length Write) (Bucket len) pieces)
-    go Compare ih = omega (arith, ih, sum_by-cons (counted_length Compare) (Bucket len) pieces)
-counted_parts kind (Data offset len ∷ pieces) [] few = absurd (grind (arith, common_steps))
-counted_parts kind (Data offset len ∷ pieces) (page ∷ pages) few =
-    omega (arith, counted_parts kind pieces pages (grind (arith, common_steps)), sum_by-cons (counted_length kind) (Data offset len) pieces)
+    go : (k : Kind) → moves_data k ≡ true → counted_in (direction_of k) (parts_of pieces pages) ≡ counted_lengths k pieces
+        → counted_in (direction_of k) (parts_of (Bucket len ∷ pieces) pages) ≡ counted_lengths k (Bucket len ∷ pieces)
+    go Read moves ih = omega (arith, ih, sum_by-cons (counted_length Read) (Bucket len) pieces)
+    go Write moves ih = omega (arith, ih, sum_by-cons (counted_length Write) (Bucket len) pieces)
+    go Compare moves ih = omega (arith, ih, sum_by-cons (counted_length Compare) (Bucket len) pieces)
+    go WriteZeroes moves ih = absurd (true≢false (sym moves))
+    go Verify moves ih = absurd (true≢false (sym moves))
+    go Flush moves ih = absurd (true≢false (sym moves))
+counted_parts kind moves (Data offset len ∷ pieces) [] few = absurd (grind (arith, common_steps))
+counted_parts kind moves (Data offset len ∷ pieces) (page ∷ pages) few =
+    omega (arith, counted_parts kind moves pieces pages (grind (arith, common_steps)), sum_by-cons (counted_length kind) (Data offset len) pieces)
 
-pub parts_count : (r : Request) (pages : List ℕ) → IsGood r → length pages ≡ data_count r.pieces → counted_in (direction_of r.kind) (parts_of r.pieces pages) ≡ 512 * r.blocks
-parts_count r pages good has = counted_parts r.kind r.pieces pages (omega (arith, has)) ∙ (good_is r good).counted
+pub parts_count : (r : Request) (pages : List ℕ) → IsGood r → length pages ≡ data_count r.pieces → counted_in (direction_of r.kind) (parts_of r.pieces pages) ≡ need_of r.kind r.blocks
+parts_count r pages good has = elim (cases_Bool (moves_data r.kind)) [
+  | inl moves ↦ counted_parts r.kind moves r.pieces pages (omega (arith, has)) ∙ (good_is r good).counted
+  | inr still ↦ ap (λ (pieces : List Piece). counted_in (direction_of r.kind) (parts_of pieces pages)) (no_pieces r.kind r.blocks r.pieces good still) ∙ sym (ap (λ (b : Bool). if b then 512 * r.blocks else 0) still)
+]
 
 -- each part that has a place lies in one of the pages
 pub in_page : (page offset len k : ℕ) → offset + len ≤ 4096 → k < len → page_of (4096 * page + offset + k) ≡ page
@@ -299,21 +299,51 @@ pool_bytes m at place byte e = go (at place) (page_at m (page_of place)) e
 
 -- What the walk of a job reaches
 
-pub list_of_job : (s : State) (j : Job) (l : JobList s j) → IsListIn l.command.chain_pages l.command.data_pages (memory_of s.memory) j.entry.sgl1 (joined_parts l.request.pieces l.command.data_pages)
-list_of_job s j l = record {
+-- a command that moves data has a list
+pub list_of_job : (s : State) (j : Job) (l : JobList s j) → moves_data l.request.kind ≡ true
+    → IsListIn l.command.chain_pages l.command.data_pages (memory_of s.memory) j.entry.sgl1 (joined_parts l.request.pieces l.command.data_pages)
+list_of_job s j l moves = record {
   first = l.list.first;
-  spelled = ap (λ (e : SubEntry). descriptor_of e.sgl1) l.entry ∙ l.list.read;
+  spelled = ap (λ (e : SubEntry). descriptor_of e.sgl1) l.entry ∙ ap descriptor_of (pointer_moves l.request.kind (spelling l.list.first) moves) ∙ l.list.read;
   spells = spells_there (only (on_pages l.command.chain_pages) (byte_at s.memory)) (only (on_pages l.command.chain_pages) (memory_of s.memory)) (pool_bytes s.memory (on_pages l.command.chain_pages)) l.list.first
-      (joined_parts l.request.pieces l.command.data_pages) l.list.spells;
+      (joined_parts l.request.pieces l.command.data_pages) (l.list.spells moves);
   parts_lie = joined_lie (on_pages l.command.data_pages) (parts_of l.request.pieces l.command.data_pages)
       (parts_lie l.command.data_pages l.request.pieces l.command.data_pages (good_is l.request l.sized.good).crosses (λ p h. h));
 }
 
+-- one that moves none has zeros there, which read as a block of no bytes: its walk would reach no page, and find too little data
+zeros_read : descriptor_of (replicate 16 0) ≡ Some (DataBlock 0 0)
+zeros_read = reads_itself (DataBlock 0 0) (omega arith, omega arith)
+
+no_block : (m : Memory) (n offset : ℕ) (rest : Course) → moving m (pages_spanned 0 (min 0 n)) 0 (min 0 n) offset rest ≡ rest
+unfolding moving
+no_block m n offset rest =
+    let none : min 0 n ≡ 0 = omega arith in
+    ap (λ (k : ℕ). moving m (pages_spanned 0 k) 0 k offset rest) none
+
+wants_more : (need : ℕ) → 0 < need → (if nat_eq (need - 0) 0 then End else Fault DATA_SGL_LENGTH_INVALID) ≡ Fault DATA_SGL_LENGTH_INVALID
+wants_more need some =
+    let wanted : nat_eq (need - 0) 0 ≡ false = grind (arith, nat_tests) in
+    ap (λ (b : Bool). if b then End else Fault DATA_SGL_LENGTH_INVALID) wanted
+
+zeros_course : (m : Memory) (dir : Direction) (need : ℕ) → 0 < need → course_of_list m (replicate 16 0) dir need ≡ Does Stays (Closes (Fault DATA_SGL_LENGTH_INVALID))
+zeros_course m dir need some =
+    ap (λ (o : Option Descriptor). Does Stays (after_read m dir need entry_cursor need (rest_of 4095 m dir need) o)) zeros_read
+    ∙ ap (Does Stays) (no_block m need (need - need) (Closes (if nat_eq (need - 0) 0 then End else Fault DATA_SGL_LENGTH_INVALID)) ∙ ap Closes (wants_more need some))
+
+pub still_course : (s : State) (j : Job) (l : JobList s j) → moves_data l.request.kind ≡ false → course_of s j ≡ Does Stays (Closes (Fault DATA_SGL_LENGTH_INVALID))
+still_course s j l still =
+    ap (λ (sgl1 : List ℕ). course_of_list (memory_of s.memory) sgl1 (direction_of_entry j.entry) (need_of_entry j.entry))
+    (ap (λ (e : SubEntry). e.sgl1) l.entry ∙ pointer_still l.request.kind (spelling l.list.first) still)
+    ∙ zeros_course (memory_of s.memory) (direction_of_entry j.entry) (need_of_entry j.entry) (omega arith)
+
 pub course_in : (s : State) (j : Job) (l : JobList s j) → CourseIn (on_pages l.command.chain_pages) (on_pages l.command.data_pages) (course_of s j)
-course_in s j l =
-    let list = list_of_job s j l in
-    list_in (on_pages l.command.chain_pages) (on_pages l.command.data_pages) (memory_of s.memory) j.entry.sgl1 list.first (joined_parts l.request.pieces l.command.data_pages) (direction_of_entry j.entry) (need_of_entry j.entry)
-    list.spelled list.spells list.parts_lie
+course_in s j l = elim (cases_Bool (moves_data l.request.kind)) [
+  | inl moves ↦ let list = list_of_job s j l moves in
+      list_in (on_pages l.command.chain_pages) (on_pages l.command.data_pages) (memory_of s.memory) j.entry.sgl1 list.first (joined_parts l.request.pieces l.command.data_pages) (direction_of_entry j.entry) (need_of_entry j.entry)
+      list.spelled list.spells list.parts_lie
+  | inr still ↦ subst (CourseIn (on_pages l.command.chain_pages) (on_pages l.command.data_pages)) (sym (still_course s j l still)) (tt, tt)
+]
 
 pub more_than_only : (at : ℕ → Bool) (m : Memory) → HasBytesOf m (only at m)
 more_than_only at m place byte e = grind arith
@@ -334,13 +364,14 @@ pub record CourseWhole (s : State) (j : Job) (parts : List Part) : Type 0 where
   pub takes : targets (direction_of_entry j.entry) (parts_of_list (memory_of s.memory) j.entry.sgl1 (direction_of_entry j.entry) (need_of_entry j.entry)) ≡ targets (direction_of_entry j.entry) parts
   pub counts : counted_in (direction_of_entry j.entry) parts ≡ need_of_entry j.entry
 
-pub course_whole : (s : State) → Stood s → (j : Job) (l : JobList s j) → CourseWhole s j (parts_of l.request.pieces l.command.data_pages)
-course_whole s stood j l =
-    let list = list_of_job s j l in
+pub course_whole : (s : State) → Stood s → (j : Job) (l : JobList s j) → moves_data l.request.kind ≡ true → CourseWhole s j (parts_of l.request.pieces l.command.data_pages)
+course_whole s stood j l moves =
+    let list = list_of_job s j l moves in
     let r = l.command in
     let g = good_is l.request l.sized.good in
     let same_direction : direction_of_entry j.entry ≡ direction_of l.request.kind = ap direction_of_entry l.entry ∙ entry_direction r.cid l.request (spelling l.list.first) in
-    let same_need : need_of_entry j.entry ≡ 512 * l.request.blocks = ap need_of_entry l.entry ∙ entry_need r.cid l.request (spelling l.list.first) l.sized.good in
+    let same_need : need_of_entry j.entry ≡ need_of l.request.kind l.request.blocks =
+    ap need_of_entry l.entry ∙ entry_need r.cid l.request (spelling l.list.first) l.sized.good moves in
     let count : counted_in (direction_of_entry j.entry) (parts_of l.request.pieces r.data_pages) ≡ need_of_entry j.entry =
     ap (λ d. counted_in d (parts_of l.request.pieces r.data_pages)) same_direction ∙ parts_count l.request r.data_pages l.sized.good l.sized.pages ∙ sym same_need in
     let both = lists_end (memory_of s.memory) j.entry.sgl1 list.first (joined_parts l.request.pieces r.data_pages) (direction_of_entry j.entry) (need_of_entry j.entry)
@@ -351,14 +382,29 @@ course_whole s stood j l =
     (same_count (direction_of_entry j.entry) (parts_of l.request.pieces r.data_pages) ∙ count) in
     record { ends = both.0; takes = both.1 ∙ same_targets (direction_of_entry j.entry) (parts_of l.request.pieces r.data_pages); counts = count }
 
-pub course_ends : (s : State) → Stood s → (j : Job) (l : JobList s j) → verdict (course_of s j) ≡ End
-course_ends s stood j l = (course_whole s stood j l).ends
+pub course_ends : (s : State) → Stood s → (j : Job) (l : JobList s j) → moves_data l.request.kind ≡ true → verdict (course_of s j) ≡ End
+course_ends s stood j l moves = (course_whole s stood j l moves).ends
+
+-- whether it moves data or none, it ends, and not for want of a byte
+abbrev code_of : WalkState → ℕ
+code_of More = 0
+code_of End = 0
+code_of (Fault status) = status.sc
+
+too_short_is_no_loss : Fault DATA_SGL_LENGTH_INVALID ≢ Fault DATA_TRANSFER_ERROR
+too_short_is_no_loss same = let e : DATA_SGL_LENGTH_INVALID.sc ≡ DATA_TRANSFER_ERROR.sc = ap code_of same in absurd (omega (arith, e))
+
+pub course_over : (s : State) → Stood s → (j : Job) (l : JobList s j) → (verdict (course_of s j) ≢ More) × (verdict (course_of s j) ≢ Fault DATA_TRANSFER_ERROR)
+course_over s stood j l = elim (cases_Bool (moves_data l.request.kind)) [
+  | inl moves ↦ let e = course_ends s stood j l moves in (λ f. cc, λ f. cc)
+  | inr still ↦ let e = ap verdict (still_course s j l still) in (λ f. cc, λ f. too_short_is_no_loss (sym e ∙ f))
+]
 
 -- Its list stays where its chain pages stay, and its data pages are in
 
 pub serves_in : (m m' : Pages) (chain own : List ℕ) → ((p : ℕ) → is_among chain p ≡ true → page_at m' p ≡ page_at m p) → ((p : ℕ) → is_among own p ≡ true → is_some (page_at m' p) ≡ true)
-    → (c : Course) → CourseIn (on_pages chain) (on_pages own) c → verdict c ≡ End → Serves (memory_of m) (memory_of m') c
-serves_in m m' chain own same there (Closes v) h e = λ f. cc
+    → (c : Course) → CourseIn (on_pages chain) (on_pages own) c → verdict c ≢ Fault DATA_TRANSFER_ERROR → Serves (memory_of m) (memory_of m') c
+serves_in m m' chain own same there (Closes v) h e = e
 serves_in m m' chain own same there (Does Stays rest) h e = serves_in m m' chain own same there rest h.1 e
 serves_in m m' chain own same there (Does (Reads place) rest) h e = (
   bytes_agree (memory_of m') (memory_of m) place 16 (λ k lt. ap (λ (o : Option (List ℕ)). option_map (λ page. slice_index page ((place + k) % 4096)) o) (same (page_of (place + k)) (h.0 k lt))),
@@ -374,7 +420,7 @@ pub same_list : (s t : State) → Stood s → (j : Job) (l : JobList s j)
     → course_of t j ≡ course_of s j
 same_list s t stood j l same there =
     list_served (memory_of s.memory) (memory_of t.memory) j.entry.sgl1 (direction_of_entry j.entry) (need_of_entry j.entry)
-    (serves_in s.memory t.memory l.command.chain_pages l.command.data_pages same there (course_of s j) (course_in s j l) (course_ends s stood j l))
+    (serves_in s.memory t.memory l.command.chain_pages l.command.data_pages same there (course_of s j) (course_in s j l) (course_over s stood j l).1)
 
 -- A built draft, laid into the store, spells its parts from its entry's descriptor.
 
@@ -498,10 +544,11 @@ all_low (x ∷ xs) low =
 -- what the draft spells there
 pub draft_spells : (d : DraftContents) (entry : SubEntry) (m : Pages) → IsProperDraft d → d.entry ≡ Some entry
     → ((n : ℕ) → is_among (numbers_of d.data_pages) n ≡ true → n < 65536) → ((n : ℕ) → is_among (numbers_of d.chain_pages) n ≡ true → n < 65536)
-    → AllByRecursion (λ page. page_at m page.0 ≡ Some page.1) d.chain_pages → Spells (only (on_pages (numbers_of d.chain_pages)) (byte_at m)) (draft_first d) (draft_parts d)
-draft_spells d entry m proper e low low' there =
+    → AllByRecursion (λ page. page_at m page.0 ≡ Some page.1) d.chain_pages → moves_data d.request.kind ≡ true
+    → Spells (only (on_pages (numbers_of d.chain_pages)) (byte_at m)) (draft_first d) (draft_parts d)
+draft_spells d entry m proper e low low' there moves =
     built_drafts_spell (λ s pages parts has typed most m laid. spells m s pages parts has typed most laid) d entry proper.draft
-    (record { request = proper.request; data_pages = all_low (numbers_of d.data_pages) low; chain_pages = all_low (numbers_of d.chain_pages) low' }) e
+    (record { request = proper.request; data_pages = all_low (numbers_of d.data_pages) low; chain_pages = all_low (numbers_of d.chain_pages) low' }) e moves
     (only (on_pages (numbers_of d.chain_pages)) (byte_at m)) (holds_pages m (numbers_of d.chain_pages) d.chain_pages (λ p h. h) proper.chain_pages there)
 
 -- What the machine hands out is proper: the draft of a command that was reserved, and a command that was collected.

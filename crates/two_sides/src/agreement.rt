@@ -33,8 +33,8 @@ pub fn law_of_agreed_places()
     ensures { agreed_admin_commands_stand_once }
 {}
 
-/// Where both sides agree, each job of an I/O queue is that of a submitted command, and its walk keeps to the command's pages and
-/// would end well.
+/// Where both sides agree, each job of an I/O queue is that of a submitted command, and its walk keeps to the command's pages and,
+/// where the command moves data, would end well.
 ///
 /// Where nothing was forged, a step that forges nothing and leaves the job there leaves its list the same list.
 #[tactic(auto, using(crate::proofs::Agreed::agreed_jobs))]
@@ -43,8 +43,8 @@ pub fn law_of_agreed_jobs()
     ensures keep { agreed_jobs_keep_their_lists }
 {}
 
-/// Where both sides agree, the chain of each submitted command spells its parts, from the descriptor of its entry, and where nothing
-/// was forged no step changes a byte of its chain pages.
+/// Where both sides agree, the chain of each submitted command that moves data spells its parts, from the descriptor of its entry, and
+/// where nothing was forged no step changes a byte of a command's chain pages.
 #[tactic(auto, using(crate::proofs::Agreed::agreed_chains, crate::proofs::Agreed::agreed_chain_pages))]
 pub fn law_of_agreed_chains()
     ensures stand { agreed_chains_stand }

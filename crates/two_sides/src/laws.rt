@@ -127,15 +127,15 @@ pub fn law_of_answers()
     ensures { every_event_is_answered }
 {}
 
-/// Where nothing was forged, the chain of each submitted command spells its parts, from the descriptor of its entry, and no
-/// step that leaves it submitted changes a byte of its chain pages.
+/// Where nothing was forged, the chain of each submitted command that moves data spells its parts, from the descriptor of its entry,
+/// and no step that leaves a command submitted changes a byte of its chain pages.
 pub fn law_of_chains()
     ensures stand { chains_stand }
     ensures stay { chains_stay }
 {}
 
 /// Where nothing was forged, each job of an I/O queue is that of a submitted command, and its walk keeps to the command's
-/// pages and would end well.
+/// pages and, where the command moves data, would end well.
 ///
 /// A step that forges nothing and leaves the job there leaves its list the same list.
 pub fn law_of_jobs()

@@ -5,7 +5,7 @@ use Rattle.controller_walk.specs.Walks.{answer, course, course_in, direction_of,
 use Rattle.controller_walk.specs.declared.{cause.WalkFault.WalkFault, progress.State.{State, TheVariants.{First, Next, Data, Over}}, walk.{Walk.Walk, WalkState.WalkState}}
 use Rattle.controller_walk.specs.declared.walk.WalkState.TheVariants.{More, End, Fault}
 use Rattle.entry_codec.specs.declared.submission.SubEntry.{SubEntry}
-use Rattle.io_commands.specs.{Jobs.{direction_by, direction_of_entry, kind_of_opcode}, declared.request.Kind.{Kind, TheVariants.{Compare, Read, Write}}}
+use Rattle.io_commands.specs.{Jobs.{direction_by, direction_of_entry, kind_of_opcode}, declared.request.Kind.{Kind, TheVariants.{Compare, Flush, Read, Verify, Write, WriteZeroes}}}
 use Rattle.page_memory.specs.Memory.{Memory, bytes_at}
 use Rattle.sgl_descriptor.specs.declared.Direction.{Direction, TheVariants.Source}
 use Rattle.views.specs.{Ending.ends_with, Fetched.{fetched, Fetches, put_over}}
@@ -71,6 +71,9 @@ pub fetching : (e : SubEntry) (kind : Kind) → kind_of_opcode e.opcode ≡ Some
 fetching e Read is other = absurd (other refl)
 fetching e Write is other = ap direction_by is
 fetching e Compare is other = ap direction_by is
+fetching e WriteZeroes is other = ap direction_by is
+fetching e Verify is other = ap direction_by is
+fetching e Flush is other = ap direction_by is
 
 -- How a command ends hangs on its bytes only where it is a Compare.
 pub judged : (stored : List ℕ) (e : SubEntry) (kind : Kind) (bytes other : List ℕ) (why : Option WalkFault) → kind_of_opcode e.opcode ≡ Some kind → (kind ≢ Read → bytes ≡ other)
@@ -78,6 +81,9 @@ pub judged : (stored : List ℕ) (e : SubEntry) (kind : Kind) (bytes other : Lis
 judged stored e kind bytes other (Some fault) is same = refl
 judged stored e Read bytes other None is same = rw is refl
 judged stored e Write bytes other None is same = rw is refl
+judged stored e WriteZeroes bytes other None is same = rw is refl
+judged stored e Verify bytes other None is same = rw is refl
+judged stored e Flush bytes other None is same = rw is refl
 judged stored e Compare bytes other None is same = ap (λ (b : List ℕ). ends_with stored e b None) (same no_read)
   where
     no_read : Compare ≢ Read

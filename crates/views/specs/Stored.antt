@@ -4,7 +4,7 @@ use Rattle.std.specs.Str.{bytes_eq}
 use Rattle.controller_walk.specs.Units.{first_passing}
 use Rattle.entry_codec.specs.declared.{status.Status.Status, submission.SubEntry.SubEntry}
 use Rattle.entry_codec.specs.declared.status.TheConstants.Status.{SUCCESS, INVALID_OPCODE, INVALID_FIELD, INVALID_NAMESPACE, LBA_OUT_OF_RANGE, COMPARE_FAILURE}
-use Rattle.io_commands.specs.{Jobs.{kind_of_opcode, first_block, block_number}, declared.request.Kind.{Kind, TheVariants.{Read, Write, Compare}}}
+use Rattle.io_commands.specs.{Jobs.{kind_of_opcode, first_block, block_number}, declared.request.Kind.{Kind, TheVariants.Compare}}
 use Rattle.views.specs.declared.explain.{block_size.BlockSize.{BlockSize, TheVariants.{Bytes512, Bytes1024, Bytes2048, Bytes4096}}, namespace.GivenBlock.{GivenBlock}}
 
 -- how many bytes a block has
@@ -56,7 +56,5 @@ stored_of size given e = blocks_from (block_bytes size) given (first_block e) (b
 
 -- how a command ends whose list was accepted: a Compare fails where a byte differs from what stands in its blocks
 abbrev pub status_by : List ℕ → List ℕ → Option Kind → Status
-status_by stored bytes None = SUCCESS
-status_by stored bytes (Some Read) = SUCCESS
-status_by stored bytes (Some Write) = SUCCESS
 status_by stored bytes (Some Compare) = if bytes_eq stored bytes then SUCCESS else COMPARE_FAILURE
+status_by stored bytes kind = SUCCESS

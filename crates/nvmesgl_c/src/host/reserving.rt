@@ -4,15 +4,15 @@ ghost use Rattle.std.specs.Prelude.{◌≡◌};
 ghost use Rattle.nvmesgl_c.specs.HostKept.{kept_in};
 ghost use Rattle.nvmesgl_c.specs.HostReserving as reserving;
 ghost use Rattle.nvmesgl_c.specs.HostReserving.{Reserves, ReservesKept, ReservesOne};
+ghost use Rattle.nvmesgl_c.specs.Requests as requests;
 
 use crate::host::answer::told;
 use crate::host::calls::refuse;
 use crate::host::code::code_of_reply;
 use crate::host::handle::Handle;
 use crate::host::tagged::{Tagged, give};
-use crate::words::code::{BAD_PIECE, MEMORY, NO_KIND};
-use crate::words::{Answer, CPiece, NoPieces, kind_of, pieces_of};
-use host_bench::{Call, Flags, Refusal, Reply, Request};
+use crate::words::{Answer, CPiece, CRequest, asked_of, plain};
+use host_bench::{Call, Refusal, Reply, Request};
 use std::alloc::Global;
 
 /// The identifier of a command that was reserved.
@@ -60,7 +60,29 @@ fn reserve_kept(
     Ok(reply)
 }
 
-/// Reserves a command, which gets a tag of the caller's. Its identifier and how many pages it has are told.
+/// Reserves a command, as C asks for it, which gets a tag of the caller's. Its identifier and how many pages it has are told.
+#[unsafe(no_mangle)]
+pub extern "C" fn nvmehost_reserve_request(
+    alloc: Global,
+    handle: &mut Handle,
+    q: u16,
+    asked: &CRequest,
+    pieces: &[CPiece],
+    tag: u64,
+    answer: &mut Answer,
+) -> u32
+    ensures { Reserves (kept_in handle.old) q asked.now pieces.now tag result answer.new (kept_in handle.new) }
+{
+    let request = match asked_of(alloc, asked, pieces) {
+        Ok(request) => request,
+        Err(code) => return refuse(alloc, handle, code, answer),
+    };
+    let reply = reserve_kept(alloc, handle, q, request, tag);
+    *answer = told(&reply);
+    code_of_reply(&reply)
+}
+
+/// Reserves a command of namespace 1, with no flag, which gets a tag of the caller's. Its identifier and how many pages it has are told.
 #[unsafe(no_mangle)]
 pub extern "C" fn nvmehost_reserve_tagged(
     alloc: Global,
@@ -73,30 +95,20 @@ pub extern "C" fn nvmehost_reserve_tagged(
     tag: u64,
     answer: &mut Answer,
 ) -> u32
-    ensures { Reserves (kept_in handle.old) q kind slba blocks pieces.now tag result answer.new (kept_in handle.new) }
+    ensures { Reserves (kept_in handle.old) q (requests.plain kind slba blocks) pieces.now tag result answer.new (kept_in handle.new) }
 {
-    let Some(kind) = kind_of(kind) else {
-        return refuse(alloc, handle, NO_KIND, answer);
-    };
-    let pieces = match pieces_of(alloc, pieces) {
-        Ok(pieces) => pieces,
-        Err(NoPieces::BadPiece) => return refuse(alloc, handle, BAD_PIECE, answer),
-        Err(NoPieces::Memory) => return refuse(alloc, handle, MEMORY, answer),
-    };
-    let request = Request {
-        kind,
-        nsid: 1,
-        flags: Flags::NONE,
-        slba,
-        blocks,
+    nvmehost_reserve_request(
+        alloc,
+        handle,
+        q,
+        &plain(kind, slba, blocks),
         pieces,
-    };
-    let reply = reserve_kept(alloc, handle, q, request, tag);
-    *answer = told(&reply);
-    code_of_reply(&reply)
+        tag,
+        answer,
+    )
 }
 
-/// Reserves a command, which has the tag 0. Its identifier and how many pages it has are told.
+/// Reserves a command of namespace 1, with no flag, which has the tag 0. Its identifier and how many pages it has are told.
 #[unsafe(no_mangle)]
 pub extern "C" fn nvmehost_reserve(
     alloc: Global,
@@ -108,7 +120,7 @@ pub extern "C" fn nvmehost_reserve(
     pieces: &[CPiece],
     answer: &mut Answer,
 ) -> u32
-    ensures { Reserves (kept_in handle.old) q kind slba blocks pieces.now 0 result answer.new (kept_in handle.new) }
+    ensures { Reserves (kept_in handle.old) q (requests.plain kind slba blocks) pieces.now 0 result answer.new (kept_in handle.new) }
 {
     nvmehost_reserve_tagged(alloc, handle, q, kind, slba, blocks, pieces, 0, answer)
 }

@@ -104,7 +104,7 @@ fn send_kept(
     Ok(told)
 }
 
-/// The bytes that a command takes along: none where it is a Read.
+/// The bytes that a command takes along: those of a Write or a Compare.
 ///
 /// # Errors
 ///
@@ -118,10 +118,10 @@ fn taken_along(
     ensures { IfOk result (λ bytes. bytes ≡ sending.bytes_for kind (joined sources.now)) }
 {
     match kind {
-        Kind::Read => Ok(None),
         Kind::Write | Kind::Compare => {
             Ok(Some(Bytes::from_vec(copy_of(alloc, sources, count)?)))
         }
+        _ => Ok(None),
     }
 }
 

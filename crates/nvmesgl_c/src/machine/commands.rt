@@ -3,18 +3,37 @@
 ghost use Rattle.std.specs.Prelude.{◌≡◌, IfSome};
 ghost use Rattle.nvmesgl_c.specs.MachineKept.{kept_in};
 ghost use Rattle.nvmesgl_c.specs.MachineCalls.{Says, SaysOrWants, Reserves, Gathers, looked_at};
+ghost use Rattle.nvmesgl_c.specs.Requests as requests;
 ghost use Rattle.step_core.specs.declared.step.Step.TheVariants as step;
 
 use crate::machine::answer::told;
 use crate::machine::code::code_of_reply;
 use crate::machine::handle::Handle;
 use crate::machine::steps::{do_step, refuse, say};
-use crate::words::code::{BAD_PIECE, MEMORY, NO_KIND, TOO_SHORT};
-use crate::words::{Answer, CPiece, NoPieces, kind_of, pieces_of};
+use crate::words::code::{MEMORY, TOO_SHORT};
+use crate::words::{Answer, CPiece, CRequest, asked_of, plain};
 use std::alloc::Global;
-use step_core::{Bytes, Flags, Reply, Request, Step};
+use step_core::{Bytes, Reply, Step};
 
-/// Reserves a command. Its identifier and how many pages it has are told.
+/// Reserves a command, as C asks for it. Its identifier and how many pages it has are told.
+#[unsafe(no_mangle)]
+pub extern "C" fn nvmesgl_reserve_request(
+    alloc: Global,
+    handle: &mut Handle,
+    q: u16,
+    asked: &CRequest,
+    pieces: &[CPiece],
+    answer: &mut Answer,
+) -> u32
+    ensures { Reserves (kept_in handle.old) q asked.now pieces.now result answer.new (kept_in handle.new) }
+{
+    match asked_of(alloc, asked, pieces) {
+        Ok(request) => say(alloc, handle, Step::Reserve { q, request }, answer),
+        Err(code) => refuse(alloc, handle, code, answer),
+    }
+}
+
+/// Reserves a command of namespace 1, with no flag. Its identifier and how many pages it has are told.
 #[unsafe(no_mangle)]
 pub extern "C" fn nvmesgl_reserve(
     alloc: Global,
@@ -26,25 +45,9 @@ pub extern "C" fn nvmesgl_reserve(
     pieces: &[CPiece],
     answer: &mut Answer,
 ) -> u32
-    ensures { Reserves (kept_in handle.old) q kind slba blocks pieces.now result answer.new (kept_in handle.new) }
+    ensures { Reserves (kept_in handle.old) q (requests.plain kind slba blocks) pieces.now result answer.new (kept_in handle.new) }
 {
-    let Some(kind) = kind_of(kind) else {
-        return refuse(alloc, handle, NO_KIND, answer);
-    };
-    let pieces = match pieces_of(alloc, pieces) {
-        Ok(pieces) => pieces,
-        Err(NoPieces::BadPiece) => return refuse(alloc, handle, BAD_PIECE, answer),
-        Err(NoPieces::Memory) => return refuse(alloc, handle, MEMORY, answer),
-    };
-    let request = Request {
-        kind,
-        nsid: 1,
-        flags: Flags::NONE,
-        slba,
-        blocks,
-        pieces,
-    };
-    say(alloc, handle, Step::Reserve { q, request }, answer)
+    nvmesgl_reserve_request(alloc, handle, q, &plain(kind, slba, blocks), pieces, answer)
 }
 
 /// The most bytes that are looked at: one more than a command moves.

@@ -21,9 +21,9 @@ pub const NO_KIND: u32 = 4;
 pub const TOO_SHORT: u32 = 5;
 /// The pool has no such page.
 pub const NO_PAGE: u32 = 6;
-/// The options have another size.
+/// The options, or a request, have another size.
 pub const BAD_SIZE: u32 = 7;
-/// A reserved word of the options is not 0.
+/// A reserved word of the options, or of a request, is not 0, or a flag of a request is unknown.
 pub const BAD_OPTION: u32 = 8;
 /// The image is not 1 to 65,536 whole blocks.
 pub const BAD_IMAGE: u32 = 9;

@@ -94,7 +94,7 @@ pub fn pieces_of(alloc: Global, pieces: &[CPiece]) -> Result<Pieces, NoPieces>
     }
 }
 
-/// The kind of a number: 0 a Read, 1 a Write, 2 a Compare.
+/// The kind of a number: 0 a Read, 1 a Write, 2 a Compare, 3 a Write Zeroes, 4 a Verify, 5 a Flush.
 pub fn kind_of(number: u32) -> Option<Kind>
     ensures { result ≡ requests.kind_of number }
 {
@@ -102,6 +102,9 @@ pub fn kind_of(number: u32) -> Option<Kind>
         0 => Some(Kind::Read),
         1 => Some(Kind::Write),
         2 => Some(Kind::Compare),
+        3 => Some(Kind::WriteZeroes),
+        4 => Some(Kind::Verify),
+        5 => Some(Kind::Flush),
         _ => None,
     }
 }

@@ -9,7 +9,7 @@ use crate::worlds::requests::{BLOCKS, SHAPES, bytes, request};
 use crate::worlds::rings::{COMMANDS, ENTRIES, Rings, Stage};
 use crate::worlds::told::Told;
 use entry_codec::{ComEntry, Hints, Status};
-use io_commands::Kind;
+use io_commands::{Flags, Kind, Pieces, Request};
 use std::alloc::{AllocError, Global};
 use step_core::{Bytes, Step};
 use test_support::Numbers;
@@ -38,15 +38,41 @@ fn identifier(numbers: &mut Numbers) -> u16 {
     numbers.below(u32::from(COMMANDS)) as u16
 }
 
-/// A reservation, rarely of more blocks than its pieces have.
-fn reservation(alloc: Global, numbers: &mut Numbers, q: u16) -> Result<Step, AllocError> {
+/// A request of a command that moves no data.
+fn without_data(alloc: Global, numbers: &mut Numbers) -> Request {
+    let (kind, blocks) = match numbers.below(3) {
+        0 => (Kind::WriteZeroes, 1),
+        1 => (Kind::Verify, 1),
+        _ => (Kind::Flush, 0),
+    };
+    Request {
+        kind,
+        nsid: 1,
+        flags: Flags::NONE,
+        slba: u64::from(numbers.below(BLOCKS)),
+        blocks,
+        pieces: Pieces::new(alloc),
+    }
+}
+
+/// A request of a command that moves data.
+fn with_data(alloc: Global, numbers: &mut Numbers) -> Result<Request, AllocError> {
     let kind = match numbers.below(3) {
         0 => Kind::Read,
         1 => Kind::Write,
         _ => Kind::Compare,
     };
     let shape = SHAPES[numbers.below(3) as usize];
-    let mut request = request(alloc, kind, shape, numbers.below(BLOCKS))?;
+    request(alloc, kind, shape, numbers.below(BLOCKS))
+}
+
+/// A reservation, rarely of more blocks than its pieces have.
+fn reservation(alloc: Global, numbers: &mut Numbers, q: u16) -> Result<Step, AllocError> {
+    let mut request = if numbers.below(8) == 0 {
+        without_data(alloc, numbers)
+    } else {
+        with_data(alloc, numbers)?
+    };
     if numbers.below(32) == 0 {
         request.blocks = request.blocks.wrapping_add(1);
     }

@@ -110,7 +110,7 @@ impl Slot {
             Slot::Queue => "a queue, 0 to 65535",
             Slot::Identifier => "an identifier, 0 to 65535",
             Slot::CompletionSlot => "a slot of the completion queue, 0 to 65535",
-            Slot::Kind => "read, write or compare",
+            Slot::Kind => "read, write, compare, write_zeroes, verify or flush",
             Slot::FirstBlock => "the first block, 0 to 18446744073709551615",
             Slot::Blocks => "how many blocks, 0 to 4294967295",
             Slot::Namespace => "a namespace, 1 to 4294967295",

@@ -25,7 +25,7 @@ A script of `nvmesgl threads` has one job on each line:
   Q       a queue; 0 is the admin queue
   CID     a command's identifier on its queue, as `reserve` answers it
   S       a submitter, from 0, below --submitters
-  KIND    read, write or compare
+  KIND    read, write or compare; or, without a piece, write_zeroes, verify or flush
   SLBA    the first block
   BLOCKS  how many blocks
   PIECE   OFFSET+LEN, bytes of a page of its own, or xLEN, bytes that are left out

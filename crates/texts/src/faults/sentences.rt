@@ -8,7 +8,14 @@ use script_cli::{LineFault, VERBS, Verb, piece};
 use std::alloc::{AllocError, Global};
 
 /// The kinds of commands.
-const KINDS: [&str; 3] = ["read", "write", "compare"];
+const KINDS: [&str; 6] = [
+    "read",
+    "write",
+    "compare",
+    "write_zeroes",
+    "verify",
+    "flush",
+];
 
 /// The words with which the line of a job may begin.
 const JOBS: [&str; 1] = ["job"];
@@ -124,7 +131,8 @@ fn put_bad_word(
         Slot::Kind => {
             let shown = Shown(word);
             write!(out, "'{shown}' is no kind of command: ")?;
-            put_meant(out, alloc, word, &KINDS, "it is read, write or compare.")
+            let kinds = "it is read, write, compare, write_zeroes, verify or flush.";
+            put_meant(out, alloc, word, &KINDS, kinds)
         }
         _ => put_bad_number(out, word, slot),
     }

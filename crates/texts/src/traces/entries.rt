@@ -31,6 +31,9 @@ pub fn opcode_name(q: u16, opcode: u8) -> &'static str
         io_opcode::WRITE => "Write",
         io_opcode::READ => "Read",
         io_opcode::COMPARE => "Compare",
+        io_opcode::WRITE_ZEROES => "Write Zeroes",
+        io_opcode::VERIFY => "Verify",
+        io_opcode::FLUSH => "Flush",
         _ => "no command of this profile",
     }
 }

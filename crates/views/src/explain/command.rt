@@ -54,7 +54,7 @@ fn first_bytes(alloc: Global, kind: Kind, stored: &[u8]) -> Result<Vec<u8>, Allo
 {
     match kind {
         Kind::Read => Vec::from_slice(alloc, stored),
-        Kind::Write | Kind::Compare => Ok(vec![in alloc; 0; stored.len()]?),
+        _ => Ok(vec![in alloc; 0; stored.len()]?),
     }
 }
 

@@ -3,7 +3,7 @@ use Rattle.sgl_descriptor.specs.Spelling.{spelling}
 use Rattle.sgl_chain.specs.Chains.{pages_needed}
 use Rattle.io_commands.{proofs.Building.{enough_pages, built_contents, built_keeps, built_spells}, specs.Drafting.contents_of}
 use Rattle.io_commands.specs.Drafts.{DraftContents, IsDraft, SpellsItsParts, draft_parts, draft_segments, draft_first, draft_entry, io_entry}
-use Rattle.io_commands.proofs.draft.Draft.build.Goals as goal
+use Rattle.io_commands.proofs.draft.Draft.build_with_data.Goals as goal
 
 pub invariant_of-self : goal.invariant_of-self
 invariant_of-self g c =
