@@ -180,7 +180,7 @@ uint32_t nvmehost_reserve(nvmehost *, uint16_t q, uint32_t kind, uint64_t slba, 
  * reset ended it. One that nvmehost_reserve reserves has the tag 0, whatever its identifier had before. Refused: as nvmehost_reserve, and MEMORY for a tag that is not 0. */
 uint32_t nvmehost_reserve_tagged(nvmehost *, uint16_t q, uint32_t kind, uint64_t slba, uint32_t blocks, const nvmesgl_piece *pieces, size_t piece_count, uint64_t tag,
                                  nvmesgl_answer *) NVMESGL_CALL(1, 9);
-/* Reserves a command as nvmehost_reserve_tagged does, of any namespace and with any flags: they stand in its entry. Refused: BAD_SIZE, BAD_OPTION, and then as nvmehost_reserve_tagged. */
+/* Reserves a command as nvmehost_reserve_tagged does, of any namespace, with blocks of any size and with any flags. Refused: BAD_SIZE, BAD_OPTION, and then as nvmehost_reserve_tagged. */
 uint32_t nvmehost_reserve_request(nvmehost *, uint16_t q, const nvmesgl_request *, const nvmesgl_piece *pieces, size_t piece_count, uint64_t tag, nvmesgl_answer *) NVMESGL_CALL(1, 3, 7);
 /* Fills the draft of a Write or a Compare with the bytes, and zeros after them. Refused: NO_VALUE, NOT_A_SOURCE, WRONG_LENGTH. */
 uint32_t nvmehost_fill(nvmehost *, uint16_t q, uint16_t cid, const uint8_t *bytes, size_t byte_count, nvmesgl_answer *) NVMESGL_CALL(1, 6);

@@ -64,7 +64,7 @@ enum nvmesgl_code {
     NVMESGL_NO_PAGE = 6,
     /* The size in the options, or in a request, is not the size of the struct. */
     NVMESGL_BAD_SIZE = 7,
-    /* A reserved word of the options, or of a request, is not 0, or a flag of a request is unknown. */
+    /* A reserved word of the options, or of a request, is not 0, or a flag or the block size of a request is unknown. */
     NVMESGL_BAD_OPTION = 8,
     /* The image is not 1 to 65,536 whole blocks of 512 bytes. */
     NVMESGL_BAD_IMAGE = 9,
@@ -118,15 +118,17 @@ enum nvmesgl_code {
     NVMESGL_WALKING = 33,
     /* The job's completion waits for others. */
     NVMESGL_WAITS = 34,
+    /* The modelled controller has blocks of another size than the request. */
+    NVMESGL_OTHER_BLOCKS = 35,
     /* A request with more than 1,024 pieces. */
     NVMESGL_TOO_MANY_PIECES = 40,
     /* A piece of length 0. */
     NVMESGL_EMPTY_PIECE = 41,
     /* A data piece that passes the end of its page. */
     NVMESGL_CROSSES_PAGE = 42,
-    /* No blocks, or more than 2,048. */
+    /* No blocks, or more than 1 MiB of them. */
     NVMESGL_BAD_COUNT = 43,
-    /* Pieces that count are not 512 bytes a block. */
+    /* Pieces that count are not the bytes of the blocks. */
     NVMESGL_LENGTH_MISMATCH = 44,
     /* A Read is not filled. */
     NVMESGL_NOT_A_SOURCE = 45,
@@ -205,11 +207,12 @@ typedef struct nvmesgl_request {
     uint32_t nsid;   /* the namespace; where it is 0, none is named, and it is namespace 1 */
     uint32_t flags;  /* enum nvmesgl_flag, added up */
     uint64_t slba;   /* the first block */
-    uint32_t blocks; /* how many blocks of 512 bytes */
-    uint32_t reserved[5];
+    uint32_t blocks; /* how many blocks */
+    uint32_t block_bytes; /* how many bytes a block of the namespace has: 512, 1024, 2048 or 4096; where it is 0, 512 */
+    uint32_t reserved[4];
 } nvmesgl_request;
 
-#define NVMESGL_REQUEST {sizeof(nvmesgl_request), NVMESGL_READ, 1, 0, 0, 0, {0}}
+#define NVMESGL_REQUEST {sizeof(nvmesgl_request), NVMESGL_READ, 1, 0, 0, 0, 512, {0}}
 
 /* Bytes of the caller's: len bytes from base on, which may be null where there are none. It is laid out as POSIX's struct iovec. */
 typedef struct nvmesgl_iovec {
@@ -304,7 +307,8 @@ void nvmesgl_close(nvmesgl *);
 uint32_t nvmesgl_reserve(nvmesgl *, uint16_t q, uint32_t kind, uint64_t slba, uint32_t blocks, const nvmesgl_piece *pieces, size_t piece_count,
                          nvmesgl_answer *) NVMESGL_CALL(1, 8);
 /* Reserves a command as nvmesgl_reserve does, of any namespace and with any flags. The modelled controller has namespace 1 alone: a command of another ends with 0:0B. It
- * does the same with a flag as without. Refused: BAD_SIZE, BAD_OPTION, and then as nvmesgl_reserve. */
+ * does the same with a flag as without. Its blocks have 512 bytes: OTHER_BLOCKS, before NO_IDENTIFIER, where a request says otherwise. Refused: BAD_SIZE, BAD_OPTION, and
+ * then as nvmesgl_reserve. */
 uint32_t nvmesgl_reserve_request(nvmesgl *, uint16_t q, const nvmesgl_request *, const nvmesgl_piece *pieces, size_t piece_count, nvmesgl_answer *) NVMESGL_CALL(1, 3, 6);
 /* Fills the draft of a Write or a Compare with the bytes, and zeros after them; a draft that was built may be filled again.
  * Refused: NO_VALUE, NOT_A_SOURCE, WRONG_LENGTH, MEMORY. */

@@ -142,8 +142,8 @@ static uint32_t arbitrary(void) {
         for (size_t i = 0; i < count; i++) pieces[i] = (nvmesgl_piece){8 * below(500), 512 * below(3), below(5) == 0};
         if (below(3) != 0) pieces[0] = (nvmesgl_piece){0, 512 * blocks, NVMESGL_PIECE}, count = 1;
         if (below(3) == 0) {
-            nvmesgl_request request = {sizeof request - (below(20) == 0), below(7), below(3), below(5), below(16), blocks, {0}};
-            if (below(20) == 0) request.reserved[below(5)] = 1 + below(9);
+            nvmesgl_request request = {sizeof request - (below(20) == 0), below(7), below(3), below(5), below(16), blocks, below(4) == 0 ? 256u << below(6) : 0, {0}};
+            if (below(20) == 0) request.reserved[below(4)] = 1 + below(9);
             return nvmehost_reserve_request(&host, q, &request, pieces, count, below(3), &answer);
         }
         if (below(2) == 0) return nvmehost_reserve_tagged(&host, q, below(7), below(16), blocks, pieces, count, below(3), &answer);
@@ -210,18 +210,19 @@ static void asks(const nvmehost_options *options) {
     nvmesgl_piece piece = {0, 1024, NVMESGL_PIECE}, none = {0, 1024, 2};
     for (unsigned turn = 0; turn < 8; turn++) {
         if (nvmehost_open(&own, options, &answer) != NVMESGL_DONE) fail("open", 0);
-        static const uint32_t codes[] = {NVMESGL_BAD_SIZE, NVMESGL_BAD_OPTION, NVMESGL_BAD_OPTION, NVMESGL_NO_KIND, NVMESGL_BAD_PIECE, NVMESGL_NO_QUEUE};
-        nvmesgl_request request = {sizeof request, NVMESGL_WRITE, turn < 4 ? turn : UINT32_MAX, turn % 4, UINT64_C(0xFEDCBA9876543210), 2, {0}}, wrong = request;
+        static const uint32_t codes[] = {NVMESGL_BAD_SIZE, NVMESGL_BAD_OPTION, NVMESGL_BAD_OPTION, NVMESGL_BAD_OPTION, NVMESGL_NO_KIND, NVMESGL_BAD_PIECE, NVMESGL_NO_QUEUE};
+        nvmesgl_request request = {sizeof request, NVMESGL_WRITE, turn < 4 ? turn : UINT32_MAX, turn % 4, UINT64_C(0xFEDCBA9876543210), 2, turn % 2 * 512, {0}}, wrong = request;
         nvmehost_queue queue;
         uint32_t entry[16];
         /* Each is refused for the first that is wrong with it; then that is mended. */
-        wrong.size = turn, wrong.reserved[turn % 5] = 1u << turn, wrong.flags = 4u << turn | turn, wrong.kind = NVMESGL_FLUSH + 1 + turn;
-        for (unsigned i = 0; i < 6; i++) {
-            if (nvmehost_reserve_request(&own, 9, &wrong, i < 5 ? &none : &piece, 1, 0, &answer) != codes[i]) fail("a request with a fault", i);
+        wrong.size = turn, wrong.reserved[turn % 4] = 1u << turn, wrong.block_bytes = 256u << turn % 2 * 5, wrong.flags = 4u << turn | turn, wrong.kind = NVMESGL_FLUSH + 1 + turn;
+        for (unsigned i = 0; i < 7; i++) {
+            if (nvmehost_reserve_request(&own, 9, &wrong, i < 6 ? &none : &piece, 1, 0, &answer) != codes[i]) fail("a request with a fault", i);
             if (i == 0) wrong.size = sizeof wrong;
-            else if (i == 1) wrong.reserved[turn % 5] = 0;
+            else if (i == 1) wrong.reserved[turn % 4] = 0;
             else if (i == 2) wrong.flags = turn % 4;
-            else if (i == 3) wrong.kind = NVMESGL_COMPARE;
+            else if (i == 3) wrong.block_bytes = 1024;
+            else if (i == 4) wrong.kind = NVMESGL_COMPARE;
         }
         if (nvmehost_look(&own, 1, &queue) != NVMESGL_DONE) fail("a queue", 0);
         if (nvmehost_reserve_request(&own, 1, &request, &piece, 1, turn, &answer) != NVMESGL_DONE) fail("a request", turn);
@@ -232,6 +233,29 @@ static void asks(const nvmehost_options *options) {
         if (entry[1] != (request.nsid == 0 ? 1 : request.nsid)) fail("the namespace in an entry", entry[1]);
         if (entry[12] != (1 | (turn & 1) << 30 | (turn >> 1 & 1) << 31)) fail("the flags in an entry", entry[12]);
         if (nvmehost_reset(&own, &answer) != NVMESGL_DONE || nvmehost_collect(&own, 1, cid, &answer) != NVMESGL_DONE || answer.tag != turn) fail("the tag of a request", turn);
+        nvmehost_close(&own);
+    }
+}
+
+/* The blocks of a request have the bytes that it says: its pieces are as many, and its entry says how many blocks. */
+static void asks_in_other_blocks(const nvmehost_options *options) {
+    for (uint32_t bytes = 512; bytes <= 4096; bytes *= 2) {
+        nvmehost own = NVMEHOST_CLOSED;
+        nvmehost_queue queue;
+        nvmesgl_piece piece = {0, 4096, NVMESGL_PIECE};
+        nvmesgl_request request = {sizeof request, NVMESGL_WRITE, 1, 0, 5, 4096 / bytes, bytes, {0}};
+        uint32_t entry[16];
+        if (nvmehost_open(&own, options, &answer) != NVMESGL_DONE || nvmehost_look(&own, 1, &queue) != NVMESGL_DONE) fail("open", 0);
+        request.blocks++;
+        if (nvmehost_reserve_request(&own, 1, &request, &piece, 1, 0, &answer) != NVMESGL_LENGTH_MISMATCH) fail("a block too many", bytes);
+        request.blocks = 1048576 / bytes + 1;
+        if (nvmehost_reserve_request(&own, 1, &request, &piece, 1, 0, &answer) != NVMESGL_BAD_COUNT) fail("more than 1 MiB", bytes);
+        request.blocks = 4096 / bytes;
+        if (nvmehost_reserve_request(&own, 1, &request, &piece, 1, 0, &answer) != NVMESGL_DONE) fail("other blocks", bytes);
+        uint16_t cid = answer.cid;
+        if (nvmehost_build(&own, 1, cid, &answer) != NVMESGL_DONE || nvmehost_submit(&own, 1, cid, &answer) != NVMESGL_DONE) fail("a submission", bytes);
+        if (nvmehost_read(&own, (uint64_t)queue.submission_page * PAGE + 64u * queue.submission_tail, (uint8_t *)entry, sizeof entry) != NVMESGL_DONE) fail("an entry", bytes);
+        if (entry[10] != 5 || entry[12] != 4096 / bytes - 1) fail("the blocks in an entry", bytes);
         nvmehost_close(&own);
     }
 }
@@ -298,6 +322,7 @@ int main(int argc, char **argv) {
     options.entries = ENTRIES;
     refuses_bad_use(&options);
     asks(&options);
+    asks_in_other_blocks(&options);
     asks_without_data(&options);
     tells_hints(&options);
     uint32_t code = nvmehost_open(&host, &options, &answer);

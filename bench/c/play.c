@@ -18,6 +18,7 @@ static char line[20000];
 
 static const char *const names[] = {
     [NVMESGL_NO_VALUE] = "NoValue", [NVMESGL_NO_QUEUE] = "NoQueue", [NVMESGL_DELETING] = "Deleting", [NVMESGL_NO_IDENTIFIER] = "NoIdentifier",
+    [NVMESGL_OTHER_BLOCKS] = "OtherBlocks",
     [NVMESGL_NO_PAGES] = "NoPages", [NVMESGL_MEMORY] = "Memory", [NVMESGL_STRANGER] = "Stranger", [NVMESGL_NOT_BUILT] = "NotBuilt",
     [NVMESGL_QUEUE_GONE] = "QueueGone", [NVMESGL_QUEUE_FULL] = "QueueFull", [NVMESGL_NOT_YET] = "NotYet", [NVMESGL_WRONG_STATE] = "WrongState",
     [NVMESGL_NO_SUCH_COMMAND] = "NoSuchCommand", [NVMESGL_NOT_DELETED] = "NotDeleted", [NVMESGL_NOT_DRAINED] = "NotDrained",
@@ -101,7 +102,7 @@ static uint32_t reserve(uint16_t q) {
     request.blocks = (uint32_t)number();
     size_t n = 0;
     char *w;
-    while ((w = word()) != NULL && strchr("nfl", w[0]) == NULL) {
+    while ((w = word()) != NULL && strchr("nbfl", w[0]) == NULL) {
         nvmesgl_piece piece = {0, 0, w[0] == 'x'};
         if (piece.kind == NVMESGL_BUCKET) {
             piece.len = (uint32_t)strtoul(w + 1, NULL, 10);
@@ -115,6 +116,7 @@ static uint32_t reserve(uint16_t q) {
     if (w == NULL) return nvmesgl_reserve(&machine, q, request.kind, request.slba, request.blocks, n == 0 ? NULL : pieces, n, &answer);
     for (; w != NULL; w = word()) {
         if (w[0] == 'n') request.nsid = (uint32_t)number();
+        else if (w[0] == 'b') request.block_bytes = (uint32_t)number();
         else request.flags |= w[0] == 'f' ? NVMESGL_FUA : NVMESGL_LIMITED_RETRY;
     }
     return nvmesgl_reserve_request(&machine, q, &request, n == 0 ? NULL : pieces, n, &answer);

@@ -10,9 +10,10 @@ static unsigned command(void) { return below(16) == 0 ? below(6) : below(3); }
 /* The first three move data. */
 static const char *const kinds[] = {"read", "write", "compare", "write_zeroes", "verify", "flush"};
 
-/* A namespace and flags behind the pieces, now and then. */
+/* A namespace, a block size and flags after the pieces, now and then. */
 static void end_reserve(void) {
     if (below(12) == 0) printf(" nsid %u", 1 + below(3));
+    if (below(16) == 0) printf(" block_size %u", 512u << below(4));
     if (below(6) == 0) printf(" fua");
     if (below(6) == 0) printf(" lr");
     printf("\n");

@@ -9,7 +9,7 @@
 enum { CAP = 0x00, CC = 0x14, CSTS = 0x1c, AQA = 0x24, ASQ = 0x28, ACQ = 0x30 };
 enum { CC_ENABLE = 1, CC_ENTRY_SIZES = 6 << 16 | 4 << 20, CSTS_READY = 1, CSTS_FATAL = 2 };
 enum { OPCODE_IDENTIFY = 0x06, OPCODE_SET_FEATURES = 0x09, IDENTIFY_NAMESPACE = 0, IDENTIFY_CONTROLLER = 1, FEATURE_QUEUES = 0x07 };
-enum { ENTRY_BYTES = 64, COMPLETION_BYTES = 16, HOST_BLOCK = 512, MOST_BYTES = 1 << 20, PATIENCE = 20 };
+enum { ENTRY_BYTES = 64, COMPLETION_BYTES = 16, MOST_BYTES = 1 << 20, PATIENCE = 20 };
 
 void nvme_done(uint32_t code, const char *call) {
     if (code == NVMESGL_DONE) return;
@@ -315,7 +315,7 @@ void nvme_resume(struct nvme *nvme) {
 /* Commands -------------------------------------------------------------------------------------------------------------------------------------------------- */
 
 uint32_t nvme_reserve(struct nvme *nvme, uint16_t q, uint32_t kind, uint64_t slba, uint32_t blocks, const nvmesgl_piece *pieces, size_t count, uint16_t *cid) {
-    nvmesgl_request request = {.size = sizeof request, .kind = kind, .nsid = nvme->options.nsid, .slba = slba, .blocks = blocks * (nvme->block / HOST_BLOCK)};
+    nvmesgl_request request = {.size = sizeof request, .kind = kind, .nsid = nvme->options.nsid, .slba = slba, .blocks = blocks, .block_bytes = nvme->block};
     nvmesgl_answer answer;
     uint32_t code = nvmehost_reserve_request(&nvme->host, q, &request, pieces, count, 0, &answer);
     *cid = answer.cid;
@@ -353,30 +353,16 @@ void nvme_get(struct nvme *nvme, uint16_t q, uint16_t cid, uint8_t *bytes, uint3
     }
 }
 
-static void build_and_submit(struct nvme *nvme, uint16_t q, uint16_t cid) {
+void nvme_submit(struct nvme *nvme, uint16_t q, uint16_t cid) {
     nvmesgl_answer answer;
     nvme_done(nvmehost_build(&nvme->host, q, cid, &answer), "build");
     nvme_done(nvmehost_submit(&nvme->host, q, cid, &answer), "submit");
-}
-
-/* The host counts blocks of 512 bytes: NLB in the entry that was submitted last is overwritten. */
-static void count_blocks(struct nvme *nvme, uint16_t q) {
-    uint32_t entry[16];
-    nvme_read_entry(nvme, q, entry);
-    uint32_t blocks = ((entry[12] & 0xffff) + 1) / (nvme->block / HOST_BLOCK);
-    entry[12] = (entry[12] & 0xffff0000) | (blocks - 1);
-    nvme_write_entry(nvme, q, entry);
-}
-
-void nvme_submit(struct nvme *nvme, uint16_t q, uint16_t cid) {
-    build_and_submit(nvme, q, cid);
-    if (nvme->block != HOST_BLOCK) count_blocks(nvme, q);
     grant_command(nvme, q, cid);
 }
 
 uint16_t nvme_submit_flush(struct nvme *nvme, uint16_t q) {
     uint16_t cid;
     nvme_done(nvme_reserve(nvme, q, NVMESGL_FLUSH, 0, 0, NULL, 0, &cid), "reserve");
-    build_and_submit(nvme, q, cid);
+    nvme_submit(nvme, q, cid);
     return cid;
 }

@@ -63,7 +63,7 @@ uint64_t nvme_halt(struct nvme *);
 /* Starts the controller again, and makes its queues. */
 void nvme_resume(struct nvme *);
 
-/* Reserves a command of blocks of the namespace, as nvmehost_reserve_request does one of blocks of 512 bytes. Its code. */
+/* Reserves a command of blocks of the namespace. Its code. */
 uint32_t nvme_reserve(struct nvme *, uint16_t q, uint32_t kind, uint64_t slba, uint32_t blocks, const nvmesgl_piece *pieces, size_t count, uint16_t *cid);
 
 /* Where a data piece of a command lies, to be written from reserve to submit and read from collect to release. Not of a mirrored pool. */

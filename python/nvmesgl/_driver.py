@@ -17,10 +17,12 @@ def lent_pieces(pieces: Iterable[Piece]) -> Tuple["ctypes.Array[CPiece]", int]:
     return (CPiece * len(items))(*items), len(items)
 
 
-def request_of(kind: Kind, slba: int, blocks: int, nsid: int, force_unit_access: bool, limited_retry: bool) -> CRequest:
+def request_of(
+    kind: Kind, slba: int, blocks: int, nsid: int, block_bytes: int, force_unit_access: bool, limited_retry: bool
+) -> CRequest:
     """What a command asks for, as C takes it."""
     flags = bool(force_unit_access) + 2 * bool(limited_retry)
-    return CRequest(ctypes.sizeof(CRequest), fits(kind, 32), fits(nsid, 32), flags, fits(slba, 64), fits(blocks, 32))
+    return CRequest(ctypes.sizeof(CRequest), fits(kind, 32), fits(nsid, 32), flags, fits(slba, 64), fits(blocks, 32), fits(block_bytes, 32))
 
 
 class Driver(Opened):
@@ -41,12 +43,14 @@ class Driver(Opened):
         pieces: Iterable[Piece],
         *,
         nsid: int = 1,
+        block_bytes: int = 512,
         force_unit_access: bool = False,
         limited_retry: bool = False,
     ) -> Reserved:
-        """Reserves a command of `blocks` blocks of 512 bytes from `slba` on, as a draft: `cid`, `data_pages`, `chain_pages`. Its pages are out of the
-        pool until it is submitted. It is of namespace `nsid` (0 is 1), with the flags that are set."""
-        request = request_of(kind, slba, blocks, nsid, force_unit_access, limited_retry)
+        """Reserves a command of `blocks` blocks from `slba` on, as a draft: `cid`, `data_pages`, `chain_pages`. Its pages are out of the
+        pool until it is submitted. It is of namespace `nsid` (0 is 1), whose blocks have
+        `block_bytes` bytes (0 is 512), with the flags that are set."""
+        request = request_of(kind, slba, blocks, nsid, block_bytes, force_unit_access, limited_retry)
         return self._reserved("reserve_request", q, byref(request), *lent_pieces(pieces))
 
     def _reserved(self, name: str, *arguments: object) -> Reserved:

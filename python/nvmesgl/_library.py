@@ -132,7 +132,8 @@ class CRequest(Structure):
         ("flags", c_uint32),
         ("slba", c_uint64),
         ("blocks", c_uint32),
-        ("reserved", c_uint32 * 5),
+        ("block_bytes", c_uint32),
+        ("reserved", c_uint32 * 4),
     ]
 
 

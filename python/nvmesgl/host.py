@@ -294,13 +294,15 @@ class Host(Driver):
         tag: int = 0,
         *,
         nsid: int = 1,
+        block_bytes: int = 512,
         force_unit_access: bool = False,
         limited_retry: bool = False,
     ) -> Reserved:
-        """Reserves a command of `blocks` blocks of 512 bytes from `slba` on, as a draft: `cid`, `data_pages`, `chain_pages`. Its pages are out of the
-        pool until it is submitted. It is of namespace `nsid` (0 is 1), with the flags that are set. `reap`, `collect` and `poll` tell the tag, of 64
-        bits, when the command has ended."""
-        request = request_of(kind, slba, blocks, nsid, force_unit_access, limited_retry)
+        """Reserves a command of `blocks` blocks from `slba` on, as a draft: `cid`, `data_pages`, `chain_pages`. Its pages are out of the
+        pool until it is submitted. It is of namespace `nsid` (0 is 1), whose blocks have
+        `block_bytes` bytes (0 is 512), with the flags that are set. `reap`, `collect` and `poll` tell the tag, of 64 bits, when the command
+        has ended."""
+        request = request_of(kind, slba, blocks, nsid, block_bytes, force_unit_access, limited_retry)
         return self._reserved("reserve_request", q, byref(request), *lent_pieces(pieces), tag)
 
     # A command of several buffers

@@ -48,6 +48,7 @@ class Code(enum.IntEnum):
     NOTHING = 32
     WALKING = 33
     WAITS = 34
+    OTHER_BLOCKS = 35
     TOO_MANY_PIECES = 40
     EMPTY_PIECE = 41
     CROSSES_PAGE = 42

@@ -130,6 +130,20 @@ def test_a_namespace_and_flags():
             host.reserve(1, Kind.READ, 0, 1, [Piece(0, 512)], nsid=-1)
 
 
+def test_other_blocks():
+    """NLB and the bytes of the pieces are in blocks of the namespace."""
+    with Host(pages=32, entries=8) as host:
+        for size in (512, 1024, 2048, 4096):
+            at = host.rings(1).submission + 64 * host.queue(1).submission_tail
+            refused(Code.LENGTH_MISMATCH, host.reserve, 1, Kind.WRITE, 3, 1 + 4096 // size, [Piece(0, 4096)], block_bytes=size)
+            refused(Code.BAD_COUNT, host.reserve, 1, Kind.WRITE, 3, 1 + 1048576 // size, [Piece(0, 4096)], block_bytes=size)
+            cid = host.reserve(1, Kind.WRITE, 3, 4096 // size, [Piece(0, 4096)], block_bytes=size).cid
+            host.build(1, cid)
+            host.submit(1, cid)
+            assert struct.unpack("<QI", host.read(at + 40, 12)) == (3, 4096 // size - 1)
+        refused(Code.BAD_OPTION, host.reserve, 1, Kind.WRITE, 3, 1, [Piece(0, 520)], block_bytes=520)
+
+
 def test_hints():
     with Host(pages=32, entries=8) as host:
         device = Device(host)

@@ -125,6 +125,13 @@ def test_a_namespace_and_flags():
             machine.reserve(1, Kind.READ, 0, 1, [Piece(0, 512)], nsid=1 << 32)
 
 
+def test_other_blocks():
+    with Machine(blocks=8) as machine:
+        refused(Code.OTHER_BLOCKS, machine.reserve, 1, Kind.READ, 0, 1, [Piece(0, 4096)], block_bytes=4096)
+        refused(Code.LENGTH_MISMATCH, machine.reserve, 1, Kind.READ, 0, 1, [Piece(0, 512)], block_bytes=4096)
+        machine.cancel(1, machine.reserve(1, Kind.READ, 0, 1, [Piece(0, 512)], block_bytes=0).cid)
+
+
 def test_commands_without_data():
     with Machine(blocks=8) as machine:
         for kind, blocks in ((Kind.WRITE_ZEROES, 8), (Kind.VERIFY, 8), (Kind.FLUSH, 0)):

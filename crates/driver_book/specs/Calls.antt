@@ -3,6 +3,7 @@ use Rattle.std.specs.Prelude.{◌≡◌, ℕ, ◌+◌, ◌==◌, ◌&&◌, Bool,
 use mathlib.Core.List.{IsPrefix}
 use Rattle.entry_codec.specs.declared.status.Status.{Status}
 use Rattle.io_commands.specs.{Asked.Request, Drafts.DraftContents, Requests.data_count, Values.{FinishedContents, TicketContents}, declared.request.{Kind.TheVariants.Read, TheConstants.Flags.NONE}}
+use Rattle.io_commands.specs.declared.block_size.BlockSize.TheVariants.{Bytes512}
 use Rattle.machine_model.specs.{Events.Event, Refusals.refusal_of, State.{State, Host, record_at}, declared.words.Refusal.Refusal}
 use Rattle.driver_book.specs.{Entries.{Entry, LoggedDraft, Lacks, asked_of}, History.{told, entry, entry_of, accepted, with_draft}, State.{BookContents, SeatContents}}
 use Rattle.driver_book.specs.declared.report.{Asked.Asked, Receipt.Receipt}
@@ -89,7 +90,7 @@ is_open_for q cid r = (r.q == q) && (r.cid == cid) && is_none r.status
 
 -- what stands for a receipt behind the end of a list
 abbrev pub no_receipt : Receipt
-no_receipt = receipt 0 0 0 (record { kind = Read; nsid = 0; flags = NONE; slba = 0; blocks = 0 }) None
+no_receipt = receipt 0 0 0 (record { kind = Read; nsid = 0; flags = NONE; slba = 0; block_size = Bytes512; blocks = 0 }) None
 
 abbrev pub settled_at : Option ℕ → Option Status → List Receipt → List Receipt
 settled_at None status receipts = receipts

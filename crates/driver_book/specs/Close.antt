@@ -8,6 +8,7 @@ use Rattle.driver_book.specs.declared.report.{CloseFault.{CloseFault, TheVariant
 use Rattle.step_core.specs.Values.{Reply, Step}
 use Rattle.step_core.specs.declared.step.Reply.TheVariants as reply
 use Rattle.step_core.specs.declared.step.Step.TheVariants as step
+use Rattle.io_commands.specs.BlockSizes.{block_bytes}
 
 -- How the log says that a command ended
 
@@ -54,9 +55,9 @@ abbrev pub identifier_in : Step → ℕ
 identifier_in (step.Submit q cid) = cid
 identifier_in what = 0
 
--- the same kind, namespace, flags, first block and number of blocks
+-- the same kind, namespace, flags, first block, block size and number of blocks
 abbrev pub same_asked : Asked → Asked → Bool
-same_asked a b = same_kind a.kind b.kind && (a.nsid == b.nsid) && same_flags a.flags b.flags && (a.slba == b.slba) && (a.blocks == b.blocks)
+same_asked a b = same_kind a.kind b.kind && (a.nsid == b.nsid) && same_flags a.flags b.flags && (a.slba == b.slba) && (block_bytes a.block_size == block_bytes b.block_size) && (a.blocks == b.blocks)
 
 -- what the draft of an entry asks for; an entry without a draft fits nothing
 abbrev pub fits_asked : Asked → Option Asked → Bool

@@ -15,7 +15,7 @@ Entry = declared_entry.Entry Request (List ℕ) (List ℕ)
 
 -- what a request asks for, apart from its pieces
 abbrev pub asked_of : {P : Type 0} → declared_request.RequestOf P → Asked
-asked_of r = record { kind = r.kind; nsid = r.nsid; flags = r.flags; slba = r.slba; blocks = r.blocks }
+asked_of r = record { kind = r.kind; nsid = r.nsid; flags = r.flags; slba = r.slba; block_size = r.block_size; blocks = r.blocks }
 
 -- what the draft of an entry asks for, where it has one
 abbrev pub asked_in : {P Q : Type 0} → Option (declared_draft.LoggedDraft (declared_request.RequestOf P) Q) → Option Asked

@@ -6,6 +6,7 @@ use Rattle.io_commands.specs.declared.request.TheConstants.Flags.{NONE}
 use Rattle.step_core.specs.Values.{Step}
 use Rattle.driver_book.specs.{Entries.{Entry, LoggedDraft}, declared.entry.Span.Span}
 use Rattle.io_commands.specs.declared.request.RequestOf as declared_request
+use Rattle.io_commands.specs.declared.block_size.BlockSize.TheVariants.{Bytes512}
 use Rattle.step_core.specs.declared.step.Step as declared_step
 use Rattle.step_core.specs.declared.step.Step.TheVariants as step
 use Rattle.driver_book.specs.declared.entry.KeptEntry as declared_entry
@@ -37,11 +38,11 @@ abbrev pub part_of : {X : Type 0} → List X → Span → List X
 part_of xs s = slice_range xs s.start s.end
 
 abbrev pub shown_request : List Piece → KeptRequest → Request
-shown_request pieces r = record { kind = r.kind; nsid = r.nsid; flags = r.flags; slba = r.slba; blocks = r.blocks; pieces = part_of pieces r.pieces }
+shown_request pieces r = record { kind = r.kind; nsid = r.nsid; flags = r.flags; slba = r.slba; block_size = r.block_size; blocks = r.blocks; pieces = part_of pieces r.pieces }
 
 -- the request of a draft; where there is none, one that asks for nothing
 abbrev pub request_of : List Piece → Option KeptDraft → Request
-request_of pieces None = record { kind = Read; nsid = 1; flags = NONE; slba = 0; blocks = 0; pieces = [] }
+request_of pieces None = record { kind = Read; nsid = 1; flags = NONE; slba = 0; block_size = Bytes512; blocks = 0; pieces = [] }
 request_of pieces (Some d) = shown_request pieces d.request
 
 abbrev pub shown_step : List Piece → List KeptDraft → KeptStep → Step

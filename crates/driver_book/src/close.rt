@@ -164,6 +164,7 @@ fn is_same_asked(a: Asked, b: Asked) -> bool
         && a.nsid == b.nsid
         && is_same_flags(a.flags, b.flags)
         && a.slba == b.slba
+        && a.block_size.bytes() == b.block_size.bytes()
         && a.blocks == b.blocks
 }
 

@@ -82,6 +82,7 @@ fn keep_request<A: Allocator, B: Allocator>(
         kind: request.kind,
         nsid: request.nsid,
         flags: request.flags,
+        block_size: request.block_size,
         slba: request.slba,
         blocks: request.blocks,
         pieces: keep_pieces(list, request.pieces()),

@@ -26,7 +26,7 @@ impl<L: LogBrand, A: Allocator + Copy> Book<L, A> {
     /// [`step_core::World::least_pages`].
     pub fn least_pages<B: Allocator>(&self, request: &Request<B>) -> Result<u32, RequestFault>
         ensures least { IfOk result (λ pages. pages ≡ spec_least_pages request.now.pieces self.now.world.segment) }
-        ensures fault { result_err result ≡ fault_of request.now.kind request.now.blocks request.now.pieces }
+        ensures fault { result_err result ≡ fault_of request.now.kind request.now.block_size request.now.blocks request.now.pieces }
     {
         self.world.least_pages(request)
     }

@@ -4,7 +4,7 @@ ghost use Rattle.std.specs.Prelude.{◌≡◌, map};
 ghost use Rattle.driver_book.specs.Entries.{asked_of};
 
 use entry_codec::Status;
-use io_commands::{Flags, Kind, RequestOf};
+use io_commands::{BlockSize, Flags, Kind, RequestOf};
 use page_ledger::Counts;
 use std::alloc::{Allocator, Global};
 use std::marker::Model;
@@ -23,6 +23,8 @@ pub struct Asked {
     pub kind: Kind,
     /// Its flags.
     pub flags: Flags,
+    /// How many bytes its blocks have.
+    pub block_size: BlockSize,
 }
 
 impl Asked {
@@ -34,6 +36,7 @@ impl Asked {
             kind: request.kind,
             nsid: request.nsid,
             flags: request.flags,
+            block_size: request.block_size,
             slba: request.slba,
             blocks: request.blocks,
         }

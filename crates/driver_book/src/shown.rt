@@ -74,6 +74,7 @@ fn shown_request<'a>(pieces: &'a [Piece], request: &KeptRequest) -> RequestOf<Pi
         kind: request.kind,
         nsid: request.nsid,
         flags: request.flags,
+        block_size: request.block_size,
         slba: request.slba,
         blocks: request.blocks,
         pieces: PieceList {

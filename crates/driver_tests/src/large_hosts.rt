@@ -3,8 +3,8 @@
 use crate::looks::see;
 use entry_codec::Status;
 use host_bench::{
-    Call, Config, Flags, HostBench, Kind, Owner, PageNo, Piece, Pieces, Reaped, Reply, Request,
-    Role,
+    BlockSize, Call, Config, Flags, HostBench, Kind, Owner, PageNo, Piece, Pieces, Reaped, Reply,
+    Request, Role,
 };
 use std::alloc::{AllocError, Global};
 use std::process::Abort;
@@ -37,6 +37,7 @@ fn longest(alloc: Global) -> Result<Request, AllocError> {
         kind: Kind::Read,
         nsid: 1,
         flags: Flags::NONE,
+        block_size: BlockSize::Bytes512,
         slba: 0,
         blocks: 1_024,
         pieces,

@@ -4,8 +4,8 @@ ghost use Rattle.std.specs.Prelude.{◌<◌, IfOk};
 
 use entry_codec::{ComEntry, Hints, Status, SubEntry, io_opcode};
 use host_bench::{
-    Call, Config, Flags, HostBench, Kind, Piece, Pieces, Reaped, Refusal, Reply, Request,
-    Unreadable,
+    BlockSize, Call, Config, Flags, HostBench, Kind, Piece, Pieces, Reaped, Refusal, Reply,
+    Request, Unreadable,
 };
 use sgl_descriptor::Descriptor;
 use shared::{Change, Changes, Machine, Shared};
@@ -161,6 +161,7 @@ pub(crate) fn reserved<R: Abort>(
         kind,
         nsid: 1,
         flags: Flags::NONE,
+        block_size: BlockSize::Bytes512,
         slba: block,
         blocks: 1,
         pieces,

@@ -2,7 +2,7 @@
 
 use block_image::Image;
 use entry_codec::Status;
-use io_commands::{Draft, Finished, Flags, Kind, Piece, Pieces, Request, Ticket};
+use io_commands::{BlockSize, Draft, Finished, Flags, Kind, Piece, Pieces, Request, Ticket};
 use page_ledger::{Counts, Owner};
 use page_memory::PageNo;
 use shared::{Change, Changes, ServedStep, Shared, calls};
@@ -56,6 +56,7 @@ pub(crate) fn read_of<A: Allocator>(alloc: A, blocks: u32) -> Result<Request<A>,
         kind: Kind::Read,
         nsid: 1,
         flags: Flags::NONE,
+        block_size: BlockSize::Bytes512,
         slba: 0,
         blocks,
         pieces,

@@ -3,7 +3,7 @@
 use crate::heap::{Heap, MANY};
 use crate::looks::see;
 use crate::part::USUAL;
-use io_commands::{Flags, Kind, Piece, Pieces};
+use io_commands::{BlockSize, Flags, Kind, Piece, Pieces};
 use page_ledger::Counts;
 use std::alloc::{AllocError, Global};
 use std::process::Abort;
@@ -29,6 +29,7 @@ fn request(heap: &Heap) -> Result<Request<&Heap>, AllocError> {
         kind: Kind::Read,
         nsid: 1,
         flags: Flags::NONE,
+        block_size: BlockSize::Bytes512,
         slba: 0,
         blocks: 1,
         pieces: Pieces::from_slice(heap, &[block])?,

@@ -5,10 +5,10 @@ use Rattle.std.proofs.{Math.Seq.{get_or-append_seam, set-append_seam}, lemmas.{B
 use Rattle.std.{proofs.lemmas.{List.{append-nil, length-append, append_assoc, length-map, map-append}, Option.slice_get-get_or}, specs.Bool.OnTrue}
 use Rattle.std.specs.{List.{list_any, position_from}, Option.{option_map, option_map_or}, Prelude.{option_and_then, is_none, slice_get, slice_set}}
 use Rattle.driver_book.proofs.{Runs.logs_of_jobs_are_runs, StandsInReceipts.{both_true, closed_is_another}}
-use Rattle.driver_book.specs.{Calls.{Does, no_receipt, receipt, is_open_for, settled, settled_at}, History.LeadsTo, Laws.IsTrustedLog, Reports.Report}
-use Rattle.driver_book.specs.{State.{BookContents, AreOfJobs}, declared.report.{Asked.Asked, Receipt.Receipt}}
+use Rattle.driver_book.specs.{Calls.{Does, Receives, no_receipt, receipt, is_open_for, settled, settled_at}, Entries.{Entry, asked_of}, History.{LeadsTo, accepted}, Laws.IsTrustedLog, Reports.Report}
+use Rattle.driver_book.specs.{State.{BookContents, SeatContents, AreOfJobs}, declared.report.{Asked.Asked, Receipt.Receipt}}
 use Rattle.entry_codec.specs.declared.status.Status.{Status}
-use Rattle.io_commands.specs.{Asked.Request, Values.{FinishedContents, TicketContents}}
+use Rattle.io_commands.specs.{Asked.Request, Drafts.DraftContents, Values.{FinishedContents, TicketContents}}
 use Rattle.machine_model.specs.{State.{State, Record, is_at}, Step.{finished_from, asked_by, pages_with_bytes}}
 use Rattle.step_core.specs.{Opening.opening_of, Replies.collect_reply}
 use Rattle.host_core.specs.{Opening.refusal_of_config, declared.{config.Config.Config, refused.Refused.Refused}}
@@ -182,6 +182,13 @@ or_true false = refl
 is_open : (number q cid : ℕ) (asked : Asked) (ended awaited : List Receipt) → list_any (is_open_for q cid) (ended ++ receipt number q cid asked None ∷ awaited) ≡ true
 is_open number q cid asked [] awaited = rw (eq-eqb q q refl, eq-eqb cid cid refl) refl
 is_open number q cid asked (r ∷ ended) awaited = rw (is_open number q cid asked ended awaited) (or_true (is_open_for q cid r))
+
+-- where a submission is accepted, the seat awaits its ticket from then on
+pub awaits_ticket : (log : List Entry) (old new : SeatContents) (d : DraftContents) (r : Result TicketContents (Refused DraftContents)) → Receives log old d r new
+    → IfOk r (λ t. t ≡ record { q = d.q; cid = d.cid }) → IfOk r (λ t. list_any (is_open_for t.q t.cid) new.receipts ≡ true)
+awaits_ticket log old new d (Ok t) receives same =
+    rw (same, ap (λ (s : SeatContents). s.receipts) receives) (is_open (accepted log) d.q d.cid (asked_of d.request) old.receipts [])
+awaits_ticket log old new d (Err r) receives same = tt
 
 oldest_open : {D : Type 0} (awaited ended receipts : List Receipt) (f : FlyingOf D) (flying : List (FlyingOf D)) → receipts ≡ ended ++ awaited → AwaitEach awaited (f ∷ flying) → list_any (is_open_for f.ticket.q f.ticket.cid) receipts ≡ true
 oldest_open [] ended receipts f flying are await = absurd await

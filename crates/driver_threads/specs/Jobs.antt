@@ -93,6 +93,7 @@ abbrev pub RefusesToReserve : BookContents → ℕ → Request → JobRefusal �
 RefusesToReserve book q request why.NoQueue = refusal_of book.world (events.Reserve q request) ≡ Some refusal.NoQueue
 RefusesToReserve book q request why.QueueGone = refusal_of book.world (events.Reserve q request) ≡ Some refusal.Deleting
 RefusesToReserve book q request (why.Bad fault) = refusal_of book.world (events.Reserve q request) ≡ Some (refusal.Bad fault)
+RefusesToReserve book q request why.OtherBlocks = refusal_of book.world (events.Reserve q request) ≡ Some refusal.OtherBlocks
 RefusesToReserve book q request (why.NoPages need pool) = LacksPages book q request need pool
 RefusesToReserve book q request why.WrongLength = ⊥
 

@@ -57,6 +57,9 @@ pub enum JobRefusal {
     /// The request has a fault.
     #[error("the request has a fault: {0}")]
     Bad(RequestFault),
+    /// The controller has blocks of another size than the request.
+    #[error("the controller has blocks of another size")]
+    OtherBlocks,
     /// It needs more pages than the queues leave of the pool.
     #[error("{need} pages are needed, and the queues leave only {pool} of the pool")]
     NoPages {

@@ -81,6 +81,7 @@ fn turn_of<L: LogBrand, A: Allocator + Copy>(
         },
         Some(Refusal::NoQueue) => JobRefusal::NoQueue,
         Some(Refusal::Bad(fault)) => JobRefusal::Bad(fault),
+        Some(Refusal::OtherBlocks) => JobRefusal::OtherBlocks,
         Some(Refusal::Deleting) => JobRefusal::QueueGone,
         Some(_) => return Err(Halt::Stopped),
     };

@@ -2,7 +2,8 @@
 
 use crate::device::Device;
 use host_bench::{
-    Bytes, Call, Flags, HostBench, Kind, Piece, Pieces, Reaped, Reply, Request, Status, Unreadable,
+    BlockSize, Bytes, Call, Flags, HostBench, Kind, Piece, Pieces, Reaped, Reply, Request, Status,
+    Unreadable,
 };
 use std::alloc::{AllocError, Global};
 use std::fmt;
@@ -84,6 +85,7 @@ impl<D: Device> Driver<D> {
             kind,
             nsid: 1,
             flags: Flags::NONE,
+            block_size: BlockSize::Bytes512,
             slba: block,
             blocks: 1,
             pieces: Pieces::from_slice(self.alloc, &[piece])?,

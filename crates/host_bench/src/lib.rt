@@ -19,7 +19,7 @@ pub mod values;
 pub use bench::HostBench;
 pub use call::{Bytes, Call, CallIn, Reply, ReplyIn};
 pub use host_core::{
-    Config, Counts, DataPlace, Doorbell, FillFault, Flags, Hints, HostPositions, HostState, Kind,
-    OpenRefusal, Owner, PageNo, Piece, Pieces, QueueMemory, Reaped, Refusal, RejectedFor, Request,
-    RequestFault, Right, Role, Run, Runs, Status, Unreadable,
+    BlockSize, Config, Counts, DataPlace, Doorbell, FillFault, Flags, Hints, HostPositions,
+    HostState, Kind, OpenRefusal, Owner, PageNo, Piece, Pieces, QueueMemory, Reaped, Refusal,
+    RejectedFor, Request, RequestFault, Right, Role, Run, Runs, Status, Unreadable,
 };

@@ -33,10 +33,10 @@ use Rattle.entry_codec.specs.declared.hints.TheConstants.Hints.{NONE}
 
 record Passes (s : State) (q : ℕ) (r : Request) : Type 0 where
   queue : no_io_queue s q ≡ false
-  good : fault_of r.kind r.blocks r.pieces ≡ None
+  good : fault_of r.kind r.block_size r.blocks r.pieces ≡ None
 
 passes : (s : State) (q : ℕ) (r : Request) → refusal_of s (events.Reserve q r) ≡ None → Passes s q r
-passes s q r none = record { queue = grind (arith, none); good = none_of (fault_of r.kind r.blocks r.pieces) (grind (arith, none)) }
+passes s q r none = record { queue = grind (arith, none); good = none_of (fault_of r.kind r.block_size r.blocks r.pieces) (grind (arith, none)) }
 
 pub queue_there : (t : Tables) (q : ℕ) → no_io_queue (state_of t) q ≡ false → (queue : declared.Queue) × (slice_get t.queues q ≡ Some queue)
 queue_there t q known = elim (option_is (slice_get t.queues q)) [
@@ -147,7 +147,7 @@ reserved_step t q r d whole proper none is =
       fit = all-append (IsRecord (length t.queues)) t.records (record_of_draft d) whole.host.table.records (record {
         queue = slice_get_within t.queues d.q at.0 at.1;
         work = (
-          subst (λ (x : Request). fault_of x.kind x.blocks x.pieces ≡ None) (sym is.request) (passes (state_of t) q r none).good,
+          subst (λ (x : Request). fault_of x.kind x.block_size x.blocks x.pieces ≡ None) (sym is.request) (passes (state_of t) q r none).good,
           length-map d.data_pages
               (λ page. page.0) ∙ (is.data_pages ∙ ap (λ (x : Request). data_count x.pieces) (sym is.request)),
         );

@@ -3,7 +3,7 @@ use Rattle.std.proofs.Common.{◌≡◌, ℕ, zero, suc, ◌+◌, ◌-◌, ◌<�
 use Rattle.std.proofs.lemmas.{Bool.{true_from_ne_false, cases_lt, not-true, Decides.nat_tests}, Option.{slice_get-map, slice_get_within}}
 use Rattle.io_commands.specs.{Asked.Request, Least.least_pages, Requests.{fault_of, data_count}, declared.request.{Piece.Piece}}
 use Rattle.machine_model.{proofs.Counting.{one, times-cons, held_once, not_held}, specs.Placement.{wanted_of, chain_wanted}}
-use Rattle.machine_model.specs.Refusals.{refusal_of, no_io_queue, in_state, is_deleting, no_identifier, pages_wanted, in_service}
+use Rattle.machine_model.specs.Refusals.{refusal_of, no_io_queue, in_state, is_deleting, no_identifier, pages_wanted, in_service, takes}
 use Rattle.machine_model.specs.{State.{State, outstanding_on}, Step.{IsNewIdentifier, Refuses, times}, declared.words.HostState.HostState}
 use Rattle.page_ledger.specs.Owners.{is_among, free_pages}
 use Rattle.queue_pair.proofs.Halves.{found_within, found_free, all_claimed, lower_claimed}
@@ -120,33 +120,42 @@ none-left t whole q queue at next =
 
 -- The refusals
 
-pub refuses-no_identifier : (s : State) (q : ℕ) (r : Request) → no_io_queue s q ≡ false → in_state is_deleting s q ≡ false → fault_of r.kind r.blocks r.pieces ≡ None → no_identifier s q ≡ true
+pub refuses-other_blocks : (s : State) (q : ℕ) (r : Request) → no_io_queue s q ≡ false → in_state is_deleting s q ≡ false → fault_of r.kind r.block_size r.blocks r.pieces ≡ None
+    → takes s.host.block_sizes r.block_size ≡ false → Refuses s (events.Reserve q r) refusal.OtherBlocks []
+refuses-other_blocks s q r a b c d = (rw (a, b, c, d) refl, refl)
+
+pub refuses-no_identifier : (s : State) (q : ℕ) (r : Request) → no_io_queue s q ≡ false → in_state is_deleting s q ≡ false → fault_of r.kind r.block_size r.blocks r.pieces ≡ None
+    → takes s.host.block_sizes r.block_size ≡ true → no_identifier s q ≡ true
     → Refuses s (events.Reserve q r) refusal.NoIdentifier []
-refuses-no_identifier s q r a b c d = (rw (a, b, c, d) refl, refl)
+refuses-no_identifier s q r a b c d e = (rw (a, b, c, d, e) refl, refl)
 
-pub refuses-no_pages : (s : State) (q : ℕ) (r : Request) → no_io_queue s q ≡ false → in_state is_deleting s q ≡ false → fault_of r.kind r.blocks r.pieces ≡ None → no_identifier s q ≡ false
+pub refuses-no_pages : (s : State) (q : ℕ) (r : Request) → no_io_queue s q ≡ false → in_state is_deleting s q ≡ false → fault_of r.kind r.block_size r.blocks r.pieces ≡ None
+    → takes s.host.block_sizes r.block_size ≡ true → no_identifier s q ≡ false
     → length s.host.free < pages_wanted s r → Refuses s (events.Reserve q r) (refusal.NoPages (pages_wanted s r) (length s.host.free)) []
-refuses-no_pages s q r a b c d l = (rw (a, b, c, d, lt-ltb (length s.host.free) (pages_wanted s r) l) refl, refl)
+refuses-no_pages s q r a b c d e l = (rw (a, b, c, d, e, lt-ltb (length s.host.free) (pages_wanted s r) l) refl, refl)
 
-pub refuses-nothing : (s : State) (q : ℕ) (r : Request) → no_io_queue s q ≡ false → in_state is_deleting s q ≡ false → fault_of r.kind r.blocks r.pieces ≡ None → no_identifier s q ≡ false
+pub refuses-nothing : (s : State) (q : ℕ) (r : Request) → no_io_queue s q ≡ false → in_state is_deleting s q ≡ false → fault_of r.kind r.block_size r.blocks r.pieces ≡ None
+    → takes s.host.block_sizes r.block_size ≡ true → no_identifier s q ≡ false
     → pages_wanted s r ≤ length s.host.free → refusal_of s (events.Reserve q r) ≡ None
-refuses-nothing s q r a b c d l = rw (a, b, c, d, le-ltb (length s.host.free) (pages_wanted s r) l) refl
+refuses-nothing s q r a b c d e l = rw (a, b, c, d, e, le-ltb (length s.host.free) (pages_wanted s r) l) refl
 
 pub refuses-memory : (s : State) (q : ℕ) (r : Request) → refusal_of s (events.Reserve q r) ≡ None → Refuses s (events.Reserve q r) refusal.Memory []
 refuses-memory s q r none = (refl, none, refl)
 
-pub refuses-too_few : (s : State) (q : ℕ) (r : Request) (need free : ℕ) → no_io_queue s q ≡ false → in_state is_deleting s q ≡ false → fault_of r.kind r.blocks r.pieces ≡ None → no_identifier s q ≡ false
+pub refuses-too_few : (s : State) (q : ℕ) (r : Request) (need free : ℕ) → no_io_queue s q ≡ false → in_state is_deleting s q ≡ false → fault_of r.kind r.block_size r.blocks r.pieces ≡ None
+    → takes s.host.block_sizes r.block_size ≡ true → no_identifier s q ≡ false
     → need ≡ pages_wanted s r → free ≡ length s.host.free → free < need → Refuses s (events.Reserve q r) (refusal.NoPages need free) []
-refuses-too_few s q r need free a b c d en ef l = rw (en, ef) (refuses-no_pages s q r a b c d (omega (arith, l, en, ef)))
+refuses-too_few s q r need free a b c d e en ef l = rw (en, ef) (refuses-no_pages s q r a b c d e (omega (arith, l, en, ef)))
 
 -- What a queue tells of a request
 
 pub record Asked (t : Tables) (q : ℕ) (r : Request) : Type 0 where
   pub queue : Queue
   pub at : slice_get t.queues q ≡ Some queue
-  pub takes : no_io_queue (state_of t) q ≡ false
+  pub known : no_io_queue (state_of t) q ≡ false
   pub stays : in_state is_deleting (state_of t) q ≡ false
-  pub good : fault_of r.kind r.blocks r.pieces ≡ None
+  pub good : fault_of r.kind r.block_size r.blocks r.pieces ≡ None
+  pub fits : takes t.block_sizes r.block_size ≡ true
 
 -- where the data has room, the pages of the placement are wanted
 pub wanted-placed : (free : List ℕ) (segment : ℕ) (pieces : List Piece) → data_count pieces ≤ length free → wanted_of free segment pieces ≡ data_count pieces + chain_wanted free segment pieces
@@ -155,7 +164,7 @@ wanted-placed free segment pieces room = ap (λ (b : Bool). if b then least_page
 pub granted : (t : Tables) (q : ℕ) (r : Request) (cid data_pages chain_pages : ℕ) → IsWhole t → (asked : Asked t q r) → position not asked.queue.host.claimed ≡ Some cid
     → data_pages ≡ data_count r.pieces → chain_pages ≡ chain_wanted (free_pages t.owners) t.segment r.pieces → data_pages + chain_pages ≤ length (free_pages t.owners) → Grants t q r cid data_pages chain_pages
 granted t q r cid data_pages chain_pages whole asked next ef eb enough = record {
-  none = refuses-nothing (state_of t) q r asked.takes asked.stays asked.good (next-left t whole q cid asked.queue asked.at next)
+  none = refuses-nothing (state_of t) q r asked.known asked.stays asked.good asked.fits (next-left t whole q cid asked.queue asked.at next)
       (omega (arith, wanted-placed (free_pages t.owners) t.segment r.pieces (omega (arith, ef, enough)), ef, eb, enough));
   good = asked.good;
   there = slice_get_within t.queues q asked.queue asked.at;

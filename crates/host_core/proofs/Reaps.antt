@@ -222,7 +222,7 @@ retired-state t w q x r =
     (sym (host-at t q x r.at)))
   where
     with_free : List ℕ → List HostQueue → State
-    with_free free hs = record (state_of t) { host = record { free = free; queues = hs; records = map (lost q) t.records } }
+    with_free free hs = record (state_of t) { host = record { block_sizes = t.block_sizes; free = free; queues = hs; records = map (lost q) t.records } }
 
 retire-none : (t : Tables) (q : ℕ) (x : Queue) → Retires t q x → refusal_of (state_of t) (events.Retire q) ≡ None
 retire-none t q x r = rw (r.drained, host-at t q x r.at, r.deleted) refl

@@ -365,7 +365,7 @@ io-owned t w p l = elim (cases_Bool (is_among (a.io_pages (view_of t).host.queue
 
 pub view-reset : (t : Tables) → IsWhole t → view_of (tables_reset t) ≡ shown (after_reset (state_of t))
 view-reset t w =
-    ap₂ (λ (free : List ℕ) (queues : List HostQueue). record (view_of t) { host = record { free = free; queues = queues; records = reset_records t.records } })
+    ap₂ (λ (free : List ℕ) (queues : List HostQueue). record (view_of t) { host = record { block_sizes = t.block_sizes; free = free; queues = queues; records = reset_records t.records } })
     (given-free t.owners is_of_io_queue (length t.pages) (a.io_pages (view_of t).host.queues) (sym (lent-of t w)) (io-owned t w))
     (shown-left t.queues (λ x at. admin-live t w x at))
 

@@ -4,13 +4,14 @@ use Rattle.std.specs.Prelude.{[], ◌∷◌, None, Some, replicate, true}
 use Rattle.entry_codec.specs.{Completion.completion_bytes, declared.{completion.ComEntry.ComEntry, status.TheConstants.Status.SUCCESS}}
 use Rattle.entry_codec.specs.declared.hints.TheConstants.Hints.{NONE as no_hints}
 use Rattle.io_commands.specs.{Asked.Request, declared.request.{Kind.TheVariants.Read, Piece.TheVariants.Data, TheConstants.Flags.NONE}}
-use Rattle.machine_model.specs.{State.{HostQueue, Record}, declared.words.{HostState.TheVariants.Live, Phase.TheVariants.Submitted, Work.TheVariants.Io}}
+use Rattle.io_commands.specs.declared.block_size.BlockSize.TheVariants.{Bytes512}
+use Rattle.machine_model.specs.{State.{HostQueue, Record}, declared.words.{BlockSizes.TheVariants.Any, HostState.TheVariants.Live, Phase.TheVariants.Submitted, Work.TheVariants.Io}}
 use Rattle.page_memory.specs.Pages.{Pages, with_page_bytes, zero_page}
 use Rattle.queue_pair.specs.Rings.{fresh_host_ring}
 use Rattle.host_core.specs.Alone.{HostView}
 
 abbrev pub one_block : Request
-one_block = record { kind = Read; nsid = 1; flags = NONE; slba = 0; blocks = 1; pieces = Data 0 512 ∷ [] }
+one_block = record { kind = Read; nsid = 1; flags = NONE; slba = 0; block_size = Bytes512; blocks = 1; pieces = Data 0 512 ∷ [] }
 
 abbrev pub admin_queue : HostQueue
 admin_queue = record { state = Live; ring = fresh_host_ring; sq_pages = 0 ∷ []; cq_pages = 1 ∷ [] }
@@ -22,7 +23,12 @@ abbrev pub read_command : Record
 read_command = record { q = 1; cid = 0; phase = Submitted; work = Io one_block; data_pages = 4 ∷ []; chain_pages = []; status = None; hints = no_hints }
 
 abbrev pub waiting : HostView
-waiting = record { entries = 4; segment = 2; host = record { free = 5 ∷ 6 ∷ 7 ∷ []; queues = admin_queue ∷ io_queue ∷ []; records = read_command ∷ [] } }
+waiting =
+    record {
+      entries = 4;
+      segment = 2;
+      host = record { block_sizes = Any; free = 5 ∷ 6 ∷ 7 ∷ []; queues = admin_queue ∷ io_queue ∷ []; records = read_command ∷ [] };
+    }
 
 abbrev pub blank : Pages
 blank = replicate 8 (Some zero_page)

@@ -79,6 +79,7 @@ fn same_request<A: Allocator>(a: &Request<A>, b: &Request<A>) -> bool
         && a.nsid == b.nsid
         && same_flags(a.flags, b.flags)
         && a.slba == b.slba
+        && a.block_size.bytes() == b.block_size.bytes()
         && a.blocks == b.blocks
         && same_pieces(a.pieces.as_slice(), b.pieces.as_slice())
 }

@@ -2,6 +2,7 @@
 
 ghost use Rattle.std.specs.Prelude.{◌≡◌, ◌+◌, ◌≤◌, [], length, vec_len, vec_capacity, IfOk, IfErr};
 ghost use Rattle.machine_model.specs.Events as events;
+ghost use Rattle.machine_model.specs.Refusals.{takes as spec_takes};
 ghost use Rattle.machine_model.specs.Step.{Refuses};
 ghost use Rattle.host_core.specs.Alone.{HasPlacedPages, HostStep, IsLowest, IsOver};
 ghost use Rattle.host_core.specs.Commands.{first_placed, then_placed, reserved, Grants, new_draft};
@@ -20,8 +21,8 @@ use crate::refused::Refused;
 use crate::spare::Spares;
 use crate::tables::HostTables;
 use entry_codec::Hints;
-use io_commands::{Draft, Request};
-use machine_model::words::{Phase, Refusal, Work};
+use io_commands::{BlockSize, Draft, Request};
+use machine_model::words::{BlockSizes, Phase, Refusal, Work};
 use page_ledger::NoPages;
 use page_memory::{Page, PageNo, Store};
 use std::alloc::{AllocError, Allocator};
@@ -60,6 +61,16 @@ fn make_room<A: Allocator + Copy>(
     })
 }
 
+/// Whether a host that takes these sizes of blocks takes blocks of this one.
+fn takes(sizes: BlockSizes, size: BlockSize) -> bool
+    ensures { result ≡ spec_takes sizes size }
+{
+    match (sizes, size) {
+        (BlockSizes::Any, _) | (BlockSizes::Only512, BlockSize::Bytes512) => true,
+        (BlockSizes::Only512, _) => false,
+    }
+}
+
 impl<A: Allocator + Copy> HostTables<A> {
     /// What a request gets, or the first cause against it.
     pub(crate) fn check_reserve(&self, q: u16, request: &Request<A>) -> Result<Grant, Refusal>
@@ -77,6 +88,9 @@ impl<A: Allocator + Copy> HostTables<A> {
         match request.check() {
             Ok(()) => {}
             Err(fault) => return Err(Refusal::Bad(fault)),
+        }
+        if !takes(self.block_sizes, request.block_size) {
+            return Err(Refusal::OtherBlocks);
         }
         let Some(cid) = next_identifier(&self.queues, q) else {
             return Err(Refusal::NoIdentifier);
@@ -148,9 +162,9 @@ impl<A: Allocator + Copy> Host<A> {
     ///
     /// The request is handed back, and nothing changed. 1. `NoQueue` for queue 0, an unknown queue, and one whose submission half was
     /// given back and is not made again. 2. `Deleting` where it is being deleted. 3. `Bad` for the first fault of the request.
-    /// 4. `NoIdentifier` where each identifier of the queue is outstanding. 5. `NoPages` where too few pages are free: `need` is what
-    /// this placement takes, and where even the data has no room the fewest pages that the request could take. 6. `Memory` where memory
-    /// is refused.
+    /// 4. `OtherBlocks` where the host takes no blocks of the request's size. 5. `NoIdentifier` where each identifier of the queue is
+    /// outstanding. 6. `NoPages` where too few pages are free: `need` is what this placement takes, and where even the data has no room
+    /// the fewest pages that the request could take. 7. `Memory` where memory is refused.
     pub fn reserve(
         &mut self,
         store: &mut Store<A>,

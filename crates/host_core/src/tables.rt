@@ -2,6 +2,7 @@
 
 use crate::queue::Queue;
 use crate::record::Record;
+use machine_model::words::BlockSizes;
 use page_ledger::Ledger;
 use queue_pair::HostPair;
 use slot_table::SlotTable;
@@ -16,6 +17,8 @@ pub(crate) struct HostTables<A: Allocator> {
     pub(crate) entries: u16,
     /// The most descriptors of a segment.
     pub(crate) segment: u16,
+    /// Which sizes of blocks it takes.
+    pub(crate) block_sizes: BlockSizes,
     /// Who owns which page.
     pub(crate) ledger: Ledger<A>,
     /// The outstanding commands, in the order in which they were made.

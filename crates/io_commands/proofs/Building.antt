@@ -9,7 +9,7 @@ use Rattle.sgl_chain.specs.{Joining.{joined, joins, both}, Laws.LaidChainsSpell,
 use Rattle.page_memory.specs.{Memory.Memory, Pages.with_bytes}
 use Rattle.io_commands.specs.{Asked.Request, DataBytes.{PagesOut, filled}}
 use Rattle.io_commands.specs.Drafts.{laid, io_entry, DraftContents, IsDraft, built, draft_segments, draft_parts, draft_first, draft_entry, HoldsPages, SpellsItsParts, IsBuiltIfAny, IsBuilt, DraftsCarryTheirEntry, BuiltDraftsSpell}
-use Rattle.io_commands.specs.{Jobs.block_number, Requests.{fault_of, flag_bits, moves_data, names_blocks, need_of, is_count, is_empty_piece, counted_length, counted_lengths, data_count, parts_of, joined_parts, FitsPiece}, Values.{numbers_of, IsGood}, declared.request.{Flags.Flags, Kind.{Kind, TheVariants.{Read, Write, Compare, WriteZeroes, Verify, Flush}}}}
+use Rattle.io_commands.specs.{BlockSizes.{block_bytes, most_blocks}, declared.block_size.BlockSize.{BlockSize, TheVariants.{Bytes512, Bytes1024, Bytes2048, Bytes4096}}, Jobs.block_number, Requests.{fault_of, flag_bits, moves_data, names_blocks, need_of, is_count, is_empty_piece, counted_length, counted_lengths, data_count, parts_of, joined_parts, FitsPiece}, Values.{numbers_of, IsGood}, declared.request.{Flags.Flags, Kind.{Kind, TheVariants.{Read, Write, Compare, WriteZeroes, Verify, Flush}}}}
 use Rattle.io_commands.specs.declared.request.Piece.{Piece, TheVariants.{Data, Bucket}}
 use Rattle.entry_codec.specs.declared.submission.SubEntry.{SubEntry}
 
@@ -39,11 +39,11 @@ length-laid (s ∷ segments) (page ∷ pages) same = ap suc (length-laid segment
 -- What building a draft rests on.
 
 -- a good request has so many blocks as its kind may have, and its pieces are just its bytes
-pub has_count : (kind : Kind) (blocks : ℕ) (pieces : List Piece) → fault_of kind blocks pieces ≡ None → is_count kind blocks ≡ true
-has_count kind blocks pieces h = grind (arith, nat_tests)
+pub has_count : (kind : Kind) (size : BlockSize) (blocks : ℕ) (pieces : List Piece) → fault_of kind size blocks pieces ≡ None → is_count kind size blocks ≡ true
+has_count kind size blocks pieces h = grind (arith, nat_tests)
 
-pub counted : (kind : Kind) (blocks : ℕ) (pieces : List Piece) → fault_of kind blocks pieces ≡ None → counted_lengths kind pieces ≡ need_of kind blocks
-counted kind blocks pieces h = grind (arith, nat_tests)
+pub counted : (kind : Kind) (size : BlockSize) (blocks : ℕ) (pieces : List Piece) → fault_of kind size blocks pieces ≡ None → counted_lengths kind pieces ≡ need_of kind size blocks
+counted kind size blocks pieces h = grind (arith, nat_tests)
 
 -- where it moves data it names blocks
 pub moves_names : (kind : Kind) → moves_data kind ≡ true → names_blocks kind ≡ true
@@ -54,27 +54,40 @@ moves_names WriteZeroes moves = refl
 moves_names Verify moves = refl
 moves_names Flush moves = absurd (true≢false (sym moves))
 
-in_range : (blocks : ℕ) (names : Bool) → names ≡ true → (if names then not ((blocks == 0) || nat_lt 2048 blocks) else blocks == 0) ≡ true → 0 < blocks
-in_range blocks true is h = grind (arith, nat_tests)
-in_range blocks false is h = absurd (true≢false (sym is))
+in_range : (most blocks : ℕ) (names : Bool) → names ≡ true → (if names then not ((blocks == 0) || nat_lt most blocks) else blocks == 0) ≡ true → 0 < blocks
+in_range most blocks true is h = grind (arith, nat_tests)
+in_range most blocks false is h = absurd (true≢false (sym is))
 
-at_most : (blocks : ℕ) (names : Bool) → (if names then not ((blocks == 0) || nat_lt 2048 blocks) else blocks == 0) ≡ true → blocks ≤ 2048
-at_most blocks true h = grind (arith, nat_tests)
-at_most blocks false h = grind (arith, nat_tests)
+at_most : (most blocks : ℕ) (names : Bool) → (if names then not ((blocks == 0) || nat_lt most blocks) else blocks == 0) ≡ true → blocks ≤ most
+at_most most blocks true h = grind (arith, nat_tests)
+at_most most blocks false h = grind (arith, nat_tests)
 
--- so one that moves data has 1 to 2,048 of them, and pieces
-pub some_blocks : (kind : Kind) (blocks : ℕ) (pieces : List Piece) → fault_of kind blocks pieces ≡ None → moves_data kind ≡ true → 0 < blocks
-some_blocks kind blocks pieces h moves = in_range blocks (names_blocks kind) (moves_names kind moves) (has_count kind blocks pieces h)
+pub few_of_a_size : (size : BlockSize) → most_blocks size ≤ 2048
+few_of_a_size Bytes512 = omega arith
+few_of_a_size Bytes1024 = omega arith
+few_of_a_size Bytes2048 = omega arith
+few_of_a_size Bytes4096 = omega arith
 
-pub few_blocks : (kind : Kind) (blocks : ℕ) (pieces : List Piece) → fault_of kind blocks pieces ≡ None → blocks ≤ 2048
-few_blocks kind blocks pieces h = at_most blocks (names_blocks kind) (has_count kind blocks pieces h)
+some_bytes : (size : BlockSize) (blocks : ℕ) → 0 < blocks → 0 < block_bytes size * blocks
+some_bytes Bytes512 blocks some = omega arith
+some_bytes Bytes1024 blocks some = omega arith
+some_bytes Bytes2048 blocks some = omega arith
+some_bytes Bytes4096 blocks some = omega arith
 
-pub some_pieces : (kind : Kind) (blocks : ℕ) (pieces : List Piece) → fault_of kind blocks pieces ≡ None → moves_data kind ≡ true → 0 < length pieces
-some_pieces kind blocks [] h moves =
-    let need : 0 ≡ 512 * blocks = counted kind blocks [] h ∙ ap (λ (b : Bool). if b then 512 * blocks else 0) moves in
-    let some = some_blocks kind blocks [] h moves in
-    absurd (omega (arith, need, some))
-some_pieces kind blocks (piece ∷ pieces) h moves = omega arith
+-- so one that moves data has a block to 1 MiB of them, and pieces
+pub some_blocks : (kind : Kind) (size : BlockSize) (blocks : ℕ) (pieces : List Piece) → fault_of kind size blocks pieces ≡ None → moves_data kind ≡ true → 0 < blocks
+some_blocks kind size blocks pieces h moves = in_range (most_blocks size) blocks (names_blocks kind) (moves_names kind moves) (has_count kind size blocks pieces h)
+
+pub few_blocks : (kind : Kind) (size : BlockSize) (blocks : ℕ) (pieces : List Piece) → fault_of kind size blocks pieces ≡ None → blocks ≤ most_blocks size
+few_blocks kind size blocks pieces h = at_most (most_blocks size) blocks (names_blocks kind) (has_count kind size blocks pieces h)
+
+pub some_pieces : (kind : Kind) (size : BlockSize) (blocks : ℕ) (pieces : List Piece) → fault_of kind size blocks pieces ≡ None → moves_data kind ≡ true → 0 < length pieces
+some_pieces kind size blocks [] h moves =
+    let need : 0 ≡ block_bytes size * blocks = counted kind size blocks [] h ∙ ap (λ (b : Bool). if b then block_bytes size * blocks else 0) moves in
+    let some = some_blocks kind size blocks [] h moves in
+    let none = some_bytes size blocks some in
+    absurd (omega (arith, need, none))
+some_pieces kind size blocks (piece ∷ pieces) h moves = omega arith
 
 some_length : (kind : Kind) (piece : Piece) → moves_data kind ≡ false → is_empty_piece piece ≡ false → counted_length kind piece ≡ 0 → ⊥
 some_length kind (Data offset len) still some none = grind (arith, nat_tests)
@@ -86,10 +99,10 @@ some_length Write (Bucket len) still some none = true≢false still
 some_length Compare (Bucket len) still some none = true≢false still
 
 -- one that moves none has no piece
-pub no_pieces : (kind : Kind) (blocks : ℕ) (pieces : List Piece) → fault_of kind blocks pieces ≡ None → moves_data kind ≡ false → pieces ≡ []
-no_pieces kind blocks [] h still = refl
-no_pieces kind blocks (piece ∷ pieces) h still =
-    let need : counted_lengths kind (piece ∷ pieces) ≡ 0 = counted kind blocks (piece ∷ pieces) h ∙ ap (λ (b : Bool). if b then 512 * blocks else 0) still in
+pub no_pieces : (kind : Kind) (size : BlockSize) (blocks : ℕ) (pieces : List Piece) → fault_of kind size blocks pieces ≡ None → moves_data kind ≡ false → pieces ≡ []
+no_pieces kind size blocks [] h still = refl
+no_pieces kind size blocks (piece ∷ pieces) h still =
+    let need : counted_lengths kind (piece ∷ pieces) ≡ 0 = counted kind size blocks (piece ∷ pieces) h ∙ ap (λ (b : Bool). if b then block_bytes size * blocks else 0) still in
     let none : is_empty_piece piece ≡ false = grind (arith, nat_tests) in
     absurd (some_length kind piece still none (omega (arith, need, sum_by-cons (counted_length kind) piece pieces)))
 
@@ -120,7 +133,7 @@ joined_parts_few pieces numbers =
 pub some_parts : (r : Request) (numbers : List ℕ) → IsGood r → moves_data r.kind ≡ true → data_count r.pieces ≤ length numbers → 0 < length (joined_parts r.pieces numbers)
 some_parts r numbers good moves enough =
     let all : length (parts_of r.pieces numbers) ≡ length r.pieces = length-parts_of r.pieces numbers enough in
-    let some : 0 < length r.pieces = some_pieces r.kind r.blocks r.pieces good moves in
+    let some : 0 < length r.pieces = some_pieces r.kind r.block_size r.blocks r.pieces good moves in
     some_joined (parts_of r.pieces numbers) (omega arith)
 
 -- the first of its pages are enough for its data pieces
@@ -193,7 +206,7 @@ no_pages (page ∷ pages) none = absurd (omega (arith, none))
 pub no_chain : (d : DraftContents) → IsDraft d → moves_data d.request.kind ≡ false → d.chain_pages ≡ []
 no_chain d h still =
     no_pages d.chain_pages (h.chain_has_pages
-    ∙ ap (λ (pieces : List Piece). pages_needed (length (joined_parts pieces (numbers_of d.data_pages))) d.segment) (no_pieces d.request.kind d.request.blocks d.request.pieces h.good still))
+    ∙ ap (λ (pieces : List Piece). pages_needed (length (joined_parts pieces (numbers_of d.data_pages))) d.segment) (no_pieces d.request.kind d.request.block_size d.request.blocks d.request.pieces h.good still))
 
 -- with its entry it is built
 pub built_still : (d : DraftContents) (entry : SubEntry) → IsDraft d → moves_data d.request.kind ≡ false → entry ≡ io_entry d.cid d.request (replicate 16 0)
@@ -289,8 +302,8 @@ segments_few : (s : ℕ) (pages : List ℕ) (parts : List Part) → length (segm
 segments_few s [] parts = omega arith
 segments_few s (page ∷ pages) parts = few_of (nat_le (length parts) s) _ _ _ (length pages) (segments_few s pages (drop (s - 1) parts))
 
-pub few_pieces : (kind : Kind) (blocks : ℕ) (pieces : List Piece) → fault_of kind blocks pieces ≡ None → length pieces ≤ 1024
-few_pieces kind blocks pieces h = grind (arith, nat_tests)
+pub few_pieces : (kind : Kind) (size : BlockSize) (blocks : ℕ) (pieces : List Piece) → fault_of kind size blocks pieces ≡ None → length pieces ≤ 1024
+few_pieces kind size blocks pieces h = grind (arith, nat_tests)
 
 -- the entry of one that moves data names its blocks: the bits of its flags lie above those of their number
 blocks_below : (a b : Bool) (n : ℕ) → n < 65536 → (n + ((if a then 2 ^ 30 else 0) + (if b then 2 ^ 31 else 0))) % 65536 ≡ n
@@ -301,8 +314,9 @@ blocks_below false false n few = omega (arith, few)
 
 pub entry_blocks : (cid : ℕ) (r : Request) (sgl1 : List ℕ) → IsGood r → moves_data r.kind ≡ true → block_number (io_entry cid r sgl1) ≡ r.blocks
 entry_blocks cid r sgl1 good moves =
-    let some = some_blocks r.kind r.blocks r.pieces good moves in
-    let few = few_blocks r.kind r.blocks r.pieces good in
+    let some = some_blocks r.kind r.block_size r.blocks r.pieces good moves in
+    let few_of = few_blocks r.kind r.block_size r.blocks r.pieces good in
+    let few = few_of_a_size r.block_size in
     omega (arith, blocks_below r.flags.force_unit_access r.flags.limited_retry (r.blocks - 1) (omega (arith, some, few)), some)
 
 -- and they leave room for that number
@@ -370,5 +384,5 @@ built_drafts_spell law d entry h fits e = λ moves m held.
       pages_fit = fits.chain_pages;
       parts_fit = joined_fit (parts_of d.request.pieces (numbers_of d.data_pages)) (parts_fit d.request.pieces (numbers_of d.data_pages) fits.request.pieces fits.data_pages);
     })
-    (omega (arith, joined_parts_few d.request.pieces (numbers_of d.data_pages), few_pieces d.request.kind d.request.blocks d.request.pieces h.good))
+    (omega (arith, joined_parts_few d.request.pieces (numbers_of d.data_pages), few_pieces d.request.kind d.request.block_size d.request.blocks d.request.pieces h.good))
     m (held_laid m (draft_segments d) d.chain_pages few (subst (HoldsPages m) (sym laid_there) held))

@@ -5,7 +5,7 @@ use Rattle.std.{proofs.lemmas.{Bool.Decides.nat_tests, List.Sums.sum_by-cons}, s
 use Rattle.sgl_descriptor.specs.declared.Part.{Part}
 use Rattle.sgl_chain.{proofs.{Joins.{joined_from, from_list}, Spelled.needed_more}, specs.{Chains.pages_needed, Joining.{joins, both, joined}}}
 use Rattle.io_commands.{proofs.Building.{joined_parts_few, few_pieces}, specs.Least.{parts_in_a_run, LeastIsBetween, LeastAnywhere, LeastOfAll, AreDistinct}}
-use Rattle.io_commands.specs.{Requests.{crosses_page, is_data, data_count, parts_of, fault_of, is_empty_piece}, declared.request.{Kind.Kind, Piece.Piece}}
+use Rattle.io_commands.specs.{declared.block_size.BlockSize.BlockSize, Requests.{crosses_page, is_data, data_count, parts_of, fault_of, is_empty_piece}, declared.request.{Kind.Kind, Piece.Piece}}
 use Rattle.io_commands.specs.declared.request.Piece.TheVariants.{Data, Bucket}
 
 -- Joined parts counted from the front of a list.
@@ -148,16 +148,16 @@ counted n (Data offset len ∷ pieces) few none =
 -- In no pages are there fewer joined parts than in consecutive ones.
 
 -- what a good request is
-none_crosses : (kind : Kind) (blocks : ℕ) (pieces : List Piece) → fault_of kind blocks pieces ≡ None → list_any crosses_page pieces ≡ false
-none_crosses kind blocks pieces h = grind (arith, nat_tests)
+none_crosses : (kind : Kind) (size : BlockSize) (blocks : ℕ) (pieces : List Piece) → fault_of kind size blocks pieces ≡ None → list_any crosses_page pieces ≡ false
+none_crosses kind size blocks pieces h = grind (arith, nat_tests)
 
-none_empty : (kind : Kind) (blocks : ℕ) (pieces : List Piece) → fault_of kind blocks pieces ≡ None → list_any is_empty_piece pieces ≡ false
-none_empty kind blocks pieces h = grind (arith, nat_tests)
+none_empty : (kind : Kind) (size : BlockSize) (blocks : ℕ) (pieces : List Piece) → fault_of kind size blocks pieces ≡ None → list_any is_empty_piece pieces ≡ false
+none_empty kind size blocks pieces h = grind (arith, nat_tests)
 
 pub same_anywhere : LeastAnywhere
 same_anywhere request segment first good =
-    let few = few_pieces request.kind request.blocks request.pieces good in
-    let inside = none_crosses request.kind request.blocks request.pieces good in
+    let few = few_pieces request.kind request.block_size request.blocks request.pieces good in
+    let inside = none_crosses request.kind request.block_size request.blocks request.pieces good in
     ap (λ (k : ℕ). data_count request.pieces + pages_needed k segment) (counted first request.pieces few inside ∙ sym (counted 0 request.pieces few inside))
 
 plus_more : (d x y : ℕ) → x ≤ y → d + x ≤ d + y
@@ -272,11 +272,11 @@ least_parts (page ∷ pages) (Data offset len ∷ pieces) differ enough fit =
 
 pub least_of_all : LeastOfAll
 least_of_all request segment pages good low count distinct =
-    let few = few_pieces request.kind request.blocks request.pieces good in
-    let inside_pages = none_crosses request.kind request.blocks request.pieces good in
+    let few = few_pieces request.kind request.block_size request.blocks request.pieces good in
+    let inside_pages = none_crosses request.kind request.block_size request.blocks request.pieces good in
     let fewest : length (joined (parts_in_a_run request.pieces 0)) ≤ length (joined (parts_of request.pieces pages)) =
     subst (λ (k : ℕ). k ≤ length (joined (parts_of request.pieces pages))) (sym (counted 0 request.pieces few inside_pages))
     (least_parts pages request.pieces (differing pages distinct) (omega arith)
-    (proper request.pieces (none_empty request.kind request.blocks request.pieces good) (inside request.pieces inside_pages))) in
+    (proper request.pieces (none_empty request.kind request.block_size request.blocks request.pieces good) (inside request.pieces inside_pages))) in
     plus_more (data_count request.pieces) (pages_needed (length (joined (parts_in_a_run request.pieces 0))) segment) (pages_needed (length (joined (parts_of request.pieces pages))) segment)
     (needed_more (length (joined (parts_in_a_run request.pieces 0))) (length (joined (parts_of request.pieces pages))) segment low fewest)

@@ -6,6 +6,7 @@ pub mod Jobs
 pub mod Requests
 pub mod Values
 pub mod Asked
+pub mod BlockSizes
 pub mod Ends
 pub mod Least
 pub mod Lent

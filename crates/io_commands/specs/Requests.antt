@@ -5,7 +5,7 @@ use Rattle.controller_walk.specs.Units.{first_passing}
 use Rattle.sgl_descriptor.specs.declared.{Direction.{Direction, TheVariants.{Destination, Source}}, Part.Part}
 use Rattle.sgl_chain.specs.Joining.{joined}
 use Rattle.entry_codec.specs.declared.io_opcode.TheConstants.{READ, WRITE, COMPARE, WRITE_ZEROES, VERIFY, FLUSH}
-use Rattle.io_commands.specs.{Asked.Request, declared.request.{Flags.Flags, Kind.{Kind, TheVariants.{Read, Write, Compare, WriteZeroes, Verify, Flush}}, Piece.{Piece, TheVariants.{Data, Bucket}}}}
+use Rattle.io_commands.specs.{Asked.Request, BlockSizes.{block_bytes, most_blocks}, declared.block_size.BlockSize.BlockSize, declared.request.{Flags.Flags, Kind.{Kind, TheVariants.{Read, Write, Compare, WriteZeroes, Verify, Flush}}, Piece.{Piece, TheVariants.{Data, Bucket}}}}
 use Rattle.io_commands.specs.declared.request.RequestFault.{RequestFault, TheVariants.{TooManyPieces, EmptyPiece, CrossesPage, BadCount, LengthMismatch}}
 use Rattle.sgl_descriptor.specs.declared.Part.TheVariants as part
 
@@ -62,13 +62,13 @@ counted_length kind (Bucket len) = len
 abbrev pub counted_lengths : Kind → List Piece → ℕ
 counted_lengths kind pieces = sum_by (counted_length kind) pieces
 
--- how many bytes the pieces of a command of so many blocks are together: one that moves no data has no piece
-abbrev pub need_of : Kind → ℕ → ℕ
-need_of kind blocks = if moves_data kind then 512 * blocks else 0
+-- how many bytes the pieces of a command of so many blocks of a size are together: one that moves no data has no piece
+abbrev pub need_of : Kind → BlockSize → ℕ → ℕ
+need_of kind size blocks = if moves_data kind then block_bytes size * blocks else 0
 
--- a command moves 1 to 2,048 blocks, and a Flush none
-abbrev pub is_count : Kind → ℕ → Bool
-is_count kind blocks = if names_blocks kind then not ((blocks == 0) || nat_lt 2048 blocks) else blocks == 0
+-- a command has 1 block to 1 MiB of them, and a Flush none
+abbrev pub is_count : Kind → BlockSize → ℕ → Bool
+is_count kind size blocks = if names_blocks kind then not ((blocks == 0) || nat_lt (most_blocks size) blocks) else blocks == 0
 
 -- the data pages that pieces take, one for each data piece
 abbrev pub data_count : List Piece → ℕ
@@ -86,14 +86,14 @@ abbrev pub joined_parts : List Piece → List ℕ → List Part
 joined_parts pieces pages = joined (parts_of pieces pages)
 
 -- the first fault of a request, in the order of the checks
-abbrev pub fault_of : Kind → ℕ → List Piece → Option RequestFault
-fault_of kind blocks pieces =
+abbrev pub fault_of : Kind → BlockSize → ℕ → List Piece → Option RequestFault
+fault_of kind size blocks pieces =
     first_passing (
     (nat_lt 1024 (length pieces), TooManyPieces)
     ∷ (list_any is_empty_piece pieces, EmptyPiece)
     ∷ (list_any crosses_page pieces, CrossesPage)
-    ∷ (not (is_count kind blocks), BadCount)
-    ∷ (not (counted_lengths kind pieces == need_of kind blocks), LengthMismatch)
+    ∷ (not (is_count kind size blocks), BadCount)
+    ∷ (not (counted_lengths kind pieces == need_of kind size blocks), LengthMismatch)
     ∷ [])
 
 -- The numbers of a piece, and those of a request, fit their types.

@@ -31,7 +31,7 @@ chain_part request pages = drop (data_count request.pieces) pages
 
 -- a request that passes its check
 abbrev pub IsGood : Request → Type 0
-IsGood request = fault_of request.kind request.blocks request.pieces ≡ None
+IsGood request = fault_of request.kind request.block_size request.blocks request.pieces ≡ None
 
 -- what a finished command gathers: a Read's data, and nothing of another
 abbrev pub gathered_by : Kind → List Piece → PagesOut → List ℕ

@@ -4,6 +4,7 @@
 //! [`Finished`] is what came of it. The controller: a [`Job`] is a fetched command.
 #![tactic(auto)]
 
+mod block_size;
 mod data_bytes;
 mod draft;
 mod finished;
@@ -14,6 +15,7 @@ mod least;
 mod request;
 mod ticket;
 
+pub use block_size::BlockSize;
 pub use draft::{Draft, DraftParts, FillFault};
 pub use finished::{Finished, FinishedParts};
 pub use job::{Job, begin_job, block_number, finish_job, first_block, first_bytes, kind_of};

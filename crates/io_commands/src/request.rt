@@ -2,9 +2,11 @@
 
 ghost use Rattle.std.specs.Prelude.{◌≡◌, ◌≤◌, ◌∷◌, ◌++◌, [], length, sum_by, All, IfOk, OnOk, OnErr, Ok};
 ghost use Rattle.std.specs.Result.{result_err};
+ghost use Rattle.io_commands.specs.BlockSizes.{most_blocks};
 ghost use Rattle.io_commands.specs.DataBytes.{data_length};
 ghost use Rattle.io_commands.specs.Requests.{moves_data as spec_moves_data, names_blocks as spec_names_blocks, direction_of, opcode_of, need_of, is_count, is_empty_piece, crosses_page as spec_crosses_page, is_data as spec_is_data, counted_length, data_count, fault_of, flag_bits, FitsPiece, FitsRequest};
 
+use crate::block_size::BlockSize;
 use entry_codec::io_opcode;
 use sgl_descriptor::Direction;
 use std::alloc::{AllocError, Allocator, Global};
@@ -14,7 +16,7 @@ use thiserror::Error;
 /// The most pieces that a request has (own).
 pub const MAX_PIECES: usize = 1_024;
 
-/// The most blocks that a command moves (own).
+/// The most blocks that a command has, of 512 bytes each (own).
 pub const MAX_COMMAND_BLOCKS: u32 = 2_048;
 
 /// Which I/O command (NVM Command Set Specification 1.0, section 3.2).
@@ -73,23 +75,24 @@ impl Kind {
         }
     }
 
-    /// Whether a command has so many blocks: 1 to 2,048, and a Flush none.
-    fn has_count(self, blocks: u32) -> bool
-        ensures { result ≡ is_count self blocks }
+    /// Whether a command has so many blocks of a size: one to 1 MiB of them, and a Flush none.
+    fn has_count(self, size: BlockSize, blocks: u32) -> bool
+        ensures { result ≡ is_count self size blocks }
     {
         if self.names_blocks() {
-            blocks != 0 && blocks <= MAX_COMMAND_BLOCKS
+            blocks != 0 && blocks <= size.most_blocks()
         } else {
             blocks == 0
         }
     }
 
-    /// How many bytes the pieces of a command of so many blocks are together.
-    fn need(self, blocks: u32) -> u64
-        ensures { result ≡ need_of self blocks }
+    /// How many bytes the pieces of a command of so many blocks of a size are together.
+    fn need(self, size: BlockSize, blocks: u32) -> u64
+        requires { blocks ≤ most_blocks size }
+        ensures { result ≡ need_of self size blocks }
     {
         if self.moves_data() {
-            512 * u64::from(blocks)
+            u64::from(size.bytes_of(blocks))
         } else {
             0
         }
@@ -323,15 +326,15 @@ pub enum RequestFault {
     /// A data piece passes the end of its page.
     #[error("a data piece passes the end of its page")]
     CrossesPage,
-    /// There are no blocks, or more than 2,048; or a Flush has blocks.
-    #[error("a command has 1 to 2,048 blocks, and a Flush none")]
+    /// There are no blocks, or more than 1 MiB of them; or a Flush has blocks.
+    #[error("a command has a block to 1 MiB of them, and a Flush none")]
     BadCount,
-    /// The pieces that count are not 512 bytes a block; or a command that moves no data has a piece.
-    #[error("the lengths of the pieces are not 512 bytes a block")]
+    /// The pieces that count are not the bytes of the blocks; or a command that moves no data has a piece.
+    #[error("the lengths of the pieces are not the bytes of the blocks")]
     LengthMismatch,
 }
 
-/// What a host asks for: `blocks` blocks of 512 bytes from `slba` on, and the pieces of memory that take part, none where
+/// What a host asks for: `blocks` blocks of a size from `slba` on, and the pieces of memory that take part, none where
 /// no data moves. A Flush has no blocks, and its `slba` and flags, which the standard reserves, are to be 0 and
 /// [`Flags::NONE`]. A host writes it as [`Request`]; contracts see the pieces as a list, whatever holds them.
 #[derive(Debug, Drop)]
@@ -344,6 +347,8 @@ pub struct RequestOf<P> {
     pub flags: Flags,
     /// The first block.
     pub slba: u64,
+    /// How many bytes a block of the namespace has.
+    pub block_size: BlockSize,
     /// How many blocks.
     pub blocks: u32,
     /// The pieces, in the order of the data.
@@ -378,6 +383,7 @@ impl<A: Allocator> Request<A> {
             nsid: self.nsid,
             flags: self.flags,
             slba: self.slba,
+            block_size: self.block_size,
             blocks: self.blocks,
             pieces: self.pieces.copied_into(room)?,
         })
@@ -411,7 +417,7 @@ impl<A: Allocator> Request<A> {
     ///
     /// The first fault in the order of [`RequestFault`].
     pub fn check(&self) -> Result<(), RequestFault>
-        ensures { result_err result ≡ fault_of self.now.kind self.now.blocks self.now.pieces }
+        ensures { result_err result ≡ fault_of self.now.kind self.now.block_size self.now.blocks self.now.pieces }
     {
         let pieces = self.pieces.as_slice();
         if pieces.len() > MAX_PIECES {
@@ -429,10 +435,10 @@ impl<A: Allocator> Request<A> {
         if crosses {
             return Err(RequestFault::CrossesPage);
         }
-        if !self.kind.has_count(self.blocks) {
+        if !self.kind.has_count(self.block_size, self.blocks) {
             return Err(RequestFault::BadCount);
         }
-        if counted != self.kind.need(self.blocks) {
+        if counted != self.kind.need(self.block_size, self.blocks) {
             return Err(RequestFault::LengthMismatch);
         }
         Ok(())

@@ -23,6 +23,7 @@ abbrev pub job_refusal_text : JobRefusal → List ℕ
 job_refusal_text refusal.NoQueue = codes "refused NoQueue"
 job_refusal_text refusal.QueueGone = codes "refused QueueGone"
 job_refusal_text (refusal.Bad why) = codes "refused Bad " ++ request_fault_name why
+job_refusal_text refusal.OtherBlocks = codes "refused OtherBlocks"
 job_refusal_text (refusal.NoPages need pool) = too_few_text need pool
 job_refusal_text refusal.WrongLength = codes "refused " ++ fill_fault_name WrongLength
 

@@ -57,6 +57,7 @@ fn put_job_refusal(out: &mut String, why: JobRefusal) -> Result<(), AllocError>
         JobRefusal::NoQueue => out.push_str("refused NoQueue"),
         JobRefusal::QueueGone => out.push_str("refused QueueGone"),
         JobRefusal::Bad(fault) => put_bad(out, fault),
+        JobRefusal::OtherBlocks => out.push_str("refused OtherBlocks"),
         JobRefusal::NoPages { need, pool } => put_too_few(out, need, pool),
         JobRefusal::WrongLength => put_not_filled(out, FillFault::WrongLength),
     }

@@ -83,6 +83,7 @@ impl JobObject {
                 fault: Some(request_fault_name(fault)),
                 ..self.named("Bad")
             },
+            JobRefusal::OtherBlocks => self.named("OtherBlocks"),
             JobRefusal::NoPages { need, pool } => JobObject {
                 need: Some(need),
                 pool: Some(pool),

@@ -9,6 +9,7 @@ ghost use Rattle.io_commands.specs.declared.request.Piece.TheVariants as piece;
 ghost use Rattle.io_commands.specs.declared.request.RequestFault.TheVariants as request;
 ghost use Rattle.job_cli.specs.JobLines.{job_text};
 ghost use Rattle.job_cli.specs.Jobs.{head, job, job_of, job_of_line, jobs_of};
+ghost use Rattle.io_commands.specs.declared.block_size.BlockSize.TheVariants as size;
 ghost use Rattle.script_cli.specs.Grammar.{request_of, with_options};
 ghost use Rattle.script_cli.specs.Worked.{fed, all_fed};
 ghost use Rattle.script_cli.specs.declared.fault.LineFault.TheVariants as fault;
@@ -20,7 +21,7 @@ pub fn lines_are_jobs()
     ensures read { job_of_line 2 1 (codes "job 1 1 read 8 1 0+512") ≡ Ok (Some (job 1 (head 1 1 kind.Read 8 1) (piece.Data 0 512 ∷ []) [])) }
     ensures write { job_of_line 2 3 (codes "job 0 1 write 2 1 A2 0+512") ≡ Ok (Some (job 3 (head 0 1 kind.Write 2 1) (piece.Data 0 512 ∷ []) (162 ∷ []))) }
     ensures compare { job_of_line 2 3 (codes "job 0 1 compare 2 1 A2b0 0+256 4096+256") ≡ Ok (Some (job 3 (head 0 1 kind.Compare 2 1) (piece.Data 0 256 ∷ piece.Data 4096 256 ∷ []) (162 ∷ 176 ∷ []))) }
-    ensures options { job_of_line 2 1 (codes "job 0 1 write 0 1 A2 0+512 nsid 2 fua") ≡ Ok (Some (job_of 1 (head 0 1 kind.Write 0 1) (with_options (request_of kind.Write 0 1 (piece.Data 0 512 ∷ [])) 2 true false) (162 ∷ []))) }
+    ensures options { job_of_line 2 1 (codes "job 0 1 write 0 1 A2 0+512 nsid 2 block_size 1024 fua") ≡ Ok (Some (job_of 1 (head 0 1 kind.Write 0 1) (with_options (request_of kind.Write 0 1 (piece.Data 0 512 ∷ [])) 2 size.Bytes1024 true false) (162 ∷ []))) }
     ensures no_piece { job_of_line 2 1 (codes "job 0 1 read 0 1") ≡ Ok (Some (job 1 (head 0 1 kind.Read 0 1) [] [])) }
     ensures comment { job_of_line 2 1 (codes " # job") ≡ Ok None }
     ensures empty { job_of_line 2 1 [] ≡ Ok None }
@@ -63,6 +64,7 @@ pub fn job_lines_print()
     ensures differs { job_text 3 1 kind.Compare (end.Done COMPARE_FAILURE []) ≡ fed (codes "3 seat 1 compare status 2:85 -") }
     ensures no_queue { job_text 3 1 kind.Read (end.Refused refusal.NoQueue) ≡ fed (codes "3 seat 1 read refused NoQueue") }
     ensures bad { job_text 3 1 kind.Read (end.Refused (refusal.Bad request.LengthMismatch)) ≡ fed (codes "3 seat 1 read refused Bad LengthMismatch") }
+    ensures other_blocks { job_text 3 1 kind.Read (end.Refused refusal.OtherBlocks) ≡ fed (codes "3 seat 1 read refused OtherBlocks") }
     ensures too_few { job_text 3 1 kind.Read (end.Refused (refusal.NoPages 13 12)) ≡ fed (codes "3 seat 1 read refused NoPages need 13 pool 12") }
     ensures too_many_bytes { job_text 3 1 kind.Write (end.Refused refusal.WrongLength) ≡ fed (codes "3 seat 1 write refused WrongLength") }
 {}

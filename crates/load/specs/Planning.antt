@@ -4,6 +4,7 @@ use Rattle.driver_threads.specs.{Jobs.BytesOf, Values.JobOf}
 use Rattle.io_commands.specs.declared.request.{Kind.Kind, Piece.{Piece, TheVariants.Data}, TheConstants.Flags.NONE}
 use Rattle.load.specs.{Content.written, Picking.ArePicked, declared.{content.Content.Content, layout.Layout.Layout, plan.Planned.Planned}}
 use Rattle.io_commands.specs.declared.request.Kind.TheVariants as kind
+use Rattle.io_commands.specs.declared.block_size.BlockSize.TheVariants.{Bytes512}
 
 -- a Write makes one more of the writes of a slot, as far as a number of 32 bits goes
 unfoldable pub generation_after : Kind → ℕ → ℕ
@@ -60,6 +61,6 @@ TaskJob = JobOf TaskContents
 abbrev pub job_for : Layout → ℕ → Option Content → ℕ → Planned → TaskJob
 job_for layout seed content q planned = record {
   q = q;
-  request = record { kind = planned.kind; nsid = 1; flags = NONE; slba = planned.slot * layout.slot_blocks; blocks = layout.slot_blocks; pieces = pieces_of layout.slot_blocks };
+  request = record { kind = planned.kind; nsid = 1; flags = NONE; slba = planned.slot * layout.slot_blocks; block_size = Bytes512; blocks = layout.slot_blocks; pieces = pieces_of layout.slot_blocks };
   bytes = record { layout = layout; seed = seed; content = content; planned = planned };
 }

@@ -9,7 +9,7 @@ use crate::layout::Layout;
 use crate::picks::Picks;
 use crate::task::{Task, TaskJob};
 use driver_threads::Job;
-use io_commands::{Flags, Kind, Piece, Pieces, Request};
+use io_commands::{BlockSize, Flags, Kind, Piece, Pieces, Request};
 use std::alloc::{AllocError, Global};
 
 /// A command of a round.
@@ -126,6 +126,7 @@ fn job_of<'a>(
             kind: planned.kind,
             nsid: 1,
             flags: Flags::NONE,
+            block_size: BlockSize::Bytes512,
             slba: u64::from(layout.first_block(planned.slot)),
             blocks: layout.slot_blocks,
             pieces: pieces_of(alloc, layout.slot_blocks)?,

@@ -1,22 +1,23 @@
--- What no event of the host changes: the limits, the image, how many pages there are; and but for a reset the jobs, and that something was forged.
+-- What no event of the host changes: the limits, the sizes of blocks that the host takes, the image, how many pages there are; and but for a reset the jobs, and that something was forged.
 use Rattle.machine_model.specs.After as a
 use Rattle.machine_model.specs.Events as events
-use Rattle.std.proofs.Common.{◌≡◌, ℕ, ◌==◌, Bool, true, false, Some, List, [], ◌∷◌, ◌++◌, length, length-set, filter, find, if◌then◌else◌, eqb-true, refl, ap, sym, ◌∙◌}
-use Rattle.std.proofs.lemmas.Bool.{true≢false, and_parts}
+use Rattle.std.proofs.Common.{◌≡◌, ℕ, ◌==◌, Bool, true, false, Some, List, [], ◌∷◌, ◌++◌, length, length-set, filter, find, if◌then◌else◌, eqb-true, refl, ap, sym, ◌∙◌, inl, inr}
+use Rattle.std.proofs.lemmas.Bool.{true≢false, and_parts, cases_Bool}
 use Rattle.io_commands.specs.{Asked.Request, Values.numbers_of}
 use Rattle.admin_commands.specs.{Entries.admin_entry, declared.AdminKind.{AdminKind, TheVariants.{Abort, DeleteSq, DeleteCq}}}
 use Rattle.entry_codec.specs.declared.submission.SubEntry.{SubEntry}
 use Rattle.page_memory.specs.declared.page.Half.TheVariants.{Submission, Completion}
 use Rattle.machine_model.proofs.Moves.{host_moves, posted_bytes, posted_bits, sent_record, sends, half_from, creates_cq, creates_sq, grants_cq, grants_sq}
-use Rattle.machine_model.proofs.{Owned.{io_records, lost_keeps}, Steps.{length-in_store, length-with_pages, length-without_pages, Accepts}}
+use Rattle.machine_model.proofs.{Owned.{io_records, lost_keeps}, Steps.{length-in_store, length-with_pages, length-without_pages, Accepts, each_step, part_controller}}
 use Rattle.machine_model.{proofs.Tokens.find_map, specs.{Events.{Event, Reply}, Memory.{with_pages, zeroed_pages}, Refusals.slot_page}}
-use Rattle.machine_model.specs.{State.{State, Record, is_at, pages_of, record_at, with_record}, Step.{IsController, resets}}
+use Rattle.machine_model.specs.{State.{State, Record, is_at, pages_of, record_at, with_record}, Step.{HostPart, IsController, Step, resets}}
 use Rattle.machine_model.specs.declared.words.Work.TheVariants.{Io}
 use Rattle.page_memory.proofs.Lists.{found_is}
 
 pub record HostLeaves (s : State) (e : Event) (t : State) : Type 0 where
   pub entries : t.entries ≡ s.entries
   pub segment : t.segment ≡ s.segment
+  pub block_sizes : t.host.block_sizes ≡ s.host.block_sizes
   pub image : t.controller.image ≡ s.controller.image
   -- a reset aside
   pub jobs : resets e ≡ false → t.controller.jobs ≡ s.controller.jobs
@@ -24,8 +25,8 @@ pub record HostLeaves (s : State) (e : Event) (t : State) : Type 0 where
   pub distrusts : resets e ≡ false → s.trusted ≡ false → t.trusted ≡ false
 
 -- where the memory alone changes of these
-left : {e : Event} (s t : State) → t.entries ≡ s.entries → t.segment ≡ s.segment → t.controller.image ≡ s.controller.image → t.controller.jobs ≡ s.controller.jobs → (s.trusted ≡ false → t.trusted ≡ false) → length t.memory ≡ length s.memory → HostLeaves s e t
-left s t n g i j d m = record { entries = n; segment = g; image = i; jobs = λ other. j; size = m; distrusts = λ other. d }
+left : {e : Event} (s t : State) → t.entries ≡ s.entries → t.segment ≡ s.segment → t.host.block_sizes ≡ s.host.block_sizes → t.controller.image ≡ s.controller.image → t.controller.jobs ≡ s.controller.jobs → (s.trusted ≡ false → t.trusted ≡ false) → length t.memory ≡ length s.memory → HostLeaves s e t
+left s t n g z i j d m = record { entries = n; segment = g; block_sizes = z; image = i; jobs = λ other. j; size = m; distrusts = λ other. d }
 
 posted_size : (q : ℕ) (entry : SubEntry) (s : State) → length (posted_bytes q entry s) ≡ length s.memory
 posted_size q entry s = sym (length-in_store (posted_bytes q entry s)) ∙ ap length (posted_bits q entry s) ∙ length-in_store s.memory
@@ -34,34 +35,35 @@ pub host_leaves : (s : State) (e : Event) (reply : Reply) → Accepts s e reply 
 host_leaves s e reply ok c =
     host_moves (λ (e : Event) (reply : Reply) (t : State). HostLeaves s e t) s e reply ok c
     (record {
-      reserves = λ q request d none is. left s _ refl refl refl refl (λ d. d) (length-without_pages (numbers_of d.data_pages ++ numbers_of d.chain_pages) s.memory);
+      reserves = λ q request d none is. left s _ refl refl refl refl refl (λ d. d) (length-without_pages (numbers_of d.data_pages ++ numbers_of d.chain_pages) s.memory);
       submits = λ d entry r none built its live.
-          left s _ refl refl refl refl (λ d. d)
+          left s _ refl refl refl refl refl (λ d. d)
           (posted_size d.q entry (a.on_records (with_record d.q d.cid a.submitted) (a.on_memory (with_pages (d.data_pages ++ d.chain_pages)) s)) ∙ length-with_pages (d.data_pages ++ d.chain_pages) s.memory);
-      cancels = λ d r its. left s _ refl refl refl refl (λ d. d) (length-with_pages (d.data_pages ++ d.chain_pages) s.memory);
-      rings = λ q none. left s _ refl refl refl refl (λ d. d) refl;
-      rests = λ q is. left s s refl refl refl refl (λ d. d) refl;
-      rejects = λ q why is. left s _ refl refl refl refl (λ d. d) refl;
-      tells = λ q cid st what e r request t heard w. left s _ refl refl refl refl (λ d. d) refl;
-      hears = λ q cid st what e r adm t heard w quiet unmade. left s _ refl refl refl refl (λ d. d) refl;
-      notes = λ q cid st what e r k t heard w. left s _ refl refl refl refl (λ d. d) refl;
-      frees = λ q cid st what e r k queue t heard w at retired good. left s _ refl refl refl refl (λ d. d) refl;
-      makes_cq = λ q cid st what e r k size base vector t heard w good. left s _ refl refl refl refl (λ d. d) refl;
-      unmakes_cq = λ q cid st what e r k size base vector queue t heard w at bad. left s _ refl refl refl refl (λ d. d) refl;
-      makes_sq = λ q cid st what e r k size base t heard w good. left s _ refl refl refl refl (λ d. d) refl;
-      unmakes_sq = λ q cid st what e r k size base queue t heard w at bad. left s _ refl refl refl refl (λ d. d) refl;
-      collects = λ q cid r f at held is. left s _ refl refl refl refl (λ d. d) (length-without_pages (pages_of r) s.memory);
-      releases = λ f r its. left s _ refl refl refl refl (λ d. d) (length-with_pages (f.data_pages ++ f.chain_pages) s.memory);
+      cancels = λ d r its. left s _ refl refl refl refl refl (λ d. d) (length-with_pages (d.data_pages ++ d.chain_pages) s.memory);
+      rings = λ q none. left s _ refl refl refl refl refl (λ d. d) refl;
+      rests = λ q is. left s s refl refl refl refl refl (λ d. d) refl;
+      rejects = λ q why is. left s _ refl refl refl refl refl (λ d. d) refl;
+      tells = λ q cid st what e r request t heard w. left s _ refl refl refl refl refl (λ d. d) refl;
+      hears = λ q cid st what e r adm t heard w quiet unmade. left s _ refl refl refl refl refl (λ d. d) refl;
+      notes = λ q cid st what e r k t heard w. left s _ refl refl refl refl refl (λ d. d) refl;
+      frees = λ q cid st what e r k queue t heard w at retired good. left s _ refl refl refl refl refl (λ d. d) refl;
+      makes_cq = λ q cid st what e r k size base vector t heard w good. left s _ refl refl refl refl refl (λ d. d) refl;
+      unmakes_cq = λ q cid st what e r k size base vector queue t heard w at bad. left s _ refl refl refl refl refl (λ d. d) refl;
+      makes_sq = λ q cid st what e r k size base t heard w good. left s _ refl refl refl refl refl (λ d. d) refl;
+      unmakes_sq = λ q cid st what e r k size base queue t heard w at bad. left s _ refl refl refl refl refl (λ d. d) refl;
+      collects = λ q cid r f at held is. left s _ refl refl refl refl refl (λ d. d) (length-without_pages (pages_of r) s.memory);
+      releases = λ f r its. left s _ refl refl refl refl refl (λ d. d) (length-with_pages (f.data_pages ++ f.chain_pages) s.memory);
       aborts = λ q cid id none new. sent (Abort q cid) id s;
-      asks = λ q id queue none new live. left s _ refl refl refl refl (λ d. d) (sent {e = events.DeleteSq q} (DeleteSq q) id s).size;
+      asks = λ q id queue none new live. left s _ refl refl refl refl refl (λ d. d) (sent {e = events.DeleteSq q} (DeleteSq q) id s).size;
       drops = λ q id none new. sent (DeleteCq q) id s;
-      creates_cqs = λ q vector id first queue none new granted. left s _ refl refl refl refl (λ d. d) ((sent {e = events.CreateCq q vector} (creates_cq q vector first s) id (grants_cq q first s)).size ∙ length-with_pages (zeroed_pages (half_from Completion first s)) s.memory);
-      creates_sqs = λ q id first queue none new granted. left s _ refl refl refl refl (λ d. d) ((sent {e = events.CreateSq q} (creates_sq q first s) id (grants_sq q first s)).size ∙ length-with_pages (zeroed_pages (half_from Submission first s)) s.memory);
-      retires = λ q queue none at deleted. left s _ refl refl refl refl (λ d. d) refl;
-      forges = λ q slot bytes queue none at. left s _ refl refl refl refl (λ d. refl) (length-set s.memory (slot_page queue.cq_pages 16 slot) _);
+      creates_cqs = λ q vector id first queue none new granted. left s _ refl refl refl refl refl (λ d. d) ((sent {e = events.CreateCq q vector} (creates_cq q vector first s) id (grants_cq q first s)).size ∙ length-with_pages (zeroed_pages (half_from Completion first s)) s.memory);
+      creates_sqs = λ q id first queue none new granted. left s _ refl refl refl refl refl (λ d. d) ((sent {e = events.CreateSq q} (creates_sq q first s) id (grants_sq q first s)).size ∙ length-with_pages (zeroed_pages (half_from Submission first s)) s.memory);
+      retires = λ q queue none at deleted. left s _ refl refl refl refl refl (λ d. d) refl;
+      forges = λ q slot bytes queue none at. left s _ refl refl refl refl refl (λ d. refl) (length-set s.memory (slot_page queue.cq_pages 16 slot) _);
       resets = record {
         entries = refl;
         segment = refl;
+        block_sizes = refl;
         image = refl;
         jobs = λ other. absurd (true≢false other);
         size = length-with_pages (zeroed_pages (a.admin_pages s.host.queues)) s.memory;
@@ -70,7 +72,18 @@ host_leaves s e reply ok c =
     })
   where
     sent : {e : Event} (adm : AdminKind) (id : ℕ) (s : State) → HostLeaves s e (sends adm id s)
-    sent adm id s = left s _ refl refl refl refl (λ d. d) (posted_size 0 (admin_entry adm id) (a.on_records (λ records. records ++ sent_record adm id ∷ []) s))
+    sent adm id s = left s _ refl refl refl refl refl (λ d. d) (posted_size 0 (admin_entry adm id) (a.on_records (λ records. records ++ sent_record adm id ∷ []) s))
+
+-- a host takes the same sizes of blocks after each event, and after each step, whatever was forged
+pub sizes_after : (s : State) (e : Event) (reply : Reply) → Accepts s e reply → (a.after s e reply).host.block_sizes ≡ s.host.block_sizes
+sizes_after s e reply ok = elim (cases_Bool (IsController e)) [
+  | inl c ↦ ap (λ (part : HostPart). part.host.block_sizes) (part_controller s e reply c)
+  | inr c ↦ (host_leaves s e reply ok c).block_sizes
+]
+
+pub sizes_stay : (old : State) (e : Event) (reply : Reply) (new : State) → Step old e reply new → new.host.block_sizes ≡ old.host.block_sizes
+sizes_stay old e reply new step =
+    each_step (λ (part : HostPart). part.host.block_sizes ≡ old.host.block_sizes) (λ s e reply ok c h. (host_leaves s e reply ok c).block_sizes ∙ h) old e reply new step refl
 
 -- the record that a look-up finds has the queue and the identifier of that look-up
 pub ids_of : (s : State) (q cid : ℕ) (r : Record) → record_at s.host q cid ≡ Some r → (r.q ≡ q) × (r.cid ≡ cid)

@@ -421,7 +421,7 @@ io_pages [] = []
 io_pages (queue ∷ queues) = flat_map halves_of queues
 
 abbrev pub reset_host : ℕ → Host → Host
-reset_host count h = record { free = joined_in_order count (io_pages h.queues) h.free; queues = reset_queues h.queues; records = reset_records h.records }
+reset_host count h = record { block_sizes = h.block_sizes; free = joined_in_order count (io_pages h.queues) h.free; queues = reset_queues h.queues; records = reset_records h.records }
 
 -- the controller: no job, no entry, no completion; of its queues the first alone is there
 abbrev pub reset_controller_admin : ServedQueue

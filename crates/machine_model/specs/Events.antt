@@ -3,7 +3,7 @@ use Rattle.std.specs.Prelude.{ℕ, Option, List}
 use Rattle.controller_walk.specs.declared.walk.WalkState.{WalkState}
 use Rattle.io_commands.specs.{Asked.Request, Drafts.DraftContents, Values.FinishedContents}
 pub use Rattle.machine_model.specs.declared.words.Refusal.{Refusal}
-pub use Rattle.machine_model.specs.declared.words.Refusal.TheVariants.{NoQueue, Deleting, Bad, NoIdentifier, NoPages, Memory, Stranger, NotBuilt, QueueGone, QueueFull, NotYet, WrongState, NoSuchCommand, NotDeleted, NotDrained, Outstanding, NoRun, NoSlot, Idle, SlotOut, Full, NoJob, Nothing, Walking, Waits}
+pub use Rattle.machine_model.specs.declared.words.Refusal.TheVariants.{NoQueue, Deleting, Bad, OtherBlocks, NoIdentifier, NoPages, Memory, Stranger, NotBuilt, QueueGone, QueueFull, NotYet, WrongState, NoSuchCommand, NotDeleted, NotDrained, Outstanding, NoRun, NoSlot, Idle, SlotOut, Full, NoJob, Nothing, Walking, Waits}
 pub use Rattle.machine_model.specs.declared.words.RejectedFor.{RejectedFor}
 pub use Rattle.machine_model.specs.declared.words.RejectedFor.TheVariants.{WrongQueue, BadHead, UnknownId}
 pub use Rattle.machine_model.specs.declared.words.Reaped.{Reaped}

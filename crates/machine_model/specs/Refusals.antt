@@ -7,10 +7,12 @@ use Rattle.page_memory.specs.{Pages.{Pages, page_at}, declared.page.Half.{Half, 
 use Rattle.entry_codec.specs.{Completion.completion_of, Status.is_success, declared.{admin_opcode.TheConstants.DELETE_IO_SQ, completion.ComEntry.ComEntry, hints.TheConstants.Hints.NONE}}
 use Rattle.entry_codec.specs.declared.submission.SubEntry.{SubEntry}
 use Rattle.admin_commands.specs.{Entries.named_queue, Verdicts.is_live as is_running, declared.AdminKind.TheVariants.{DeleteSq, DeleteCq, CreateCq, CreateSq}}
-use Rattle.io_commands.specs.{Asked.Request, Requests.fault_of, Values.numbers_of, declared.request.{Flags.Flags, Kind.Kind}}
+use Rattle.io_commands.specs.{Asked.Request, BlockSizes.block_bytes, Requests.fault_of, Values.numbers_of, declared.request.{Flags.Flags, Kind.Kind}}
 use Rattle.io_commands.specs.declared.request.{Kind.TheVariants.{Read, Write, Compare, WriteZeroes, Verify, Flush}, Piece.{Piece, TheVariants.{Data, Bucket}}, RequestFault.RequestFault}
 use Rattle.controller_walk.specs.Units.{first_passing}
 use Rattle.queue_pair.specs.{Memory.{with_phase, half_pages}, Slots.{is_full, moved}}
+use Rattle.io_commands.specs.declared.block_size.BlockSize.{BlockSize, TheVariants.{Bytes512}}
+use Rattle.machine_model.specs.declared.words.BlockSizes.{BlockSizes, TheVariants.{Only512, Any}}
 use Rattle.machine_model.specs.Events as events
 
 -- Looking things up
@@ -150,7 +152,7 @@ same_flags a b = beq a.force_unit_access b.force_unit_access && beq a.limited_re
 
 abbrev pub same_request : Request → Request → Bool
 same_request a b =
-    same_kind a.kind b.kind && (a.nsid == b.nsid) && same_flags a.flags b.flags && (a.slba == b.slba) && (a.blocks == b.blocks) && same_pieces a.pieces b.pieces
+    same_kind a.kind b.kind && (a.nsid == b.nsid) && same_flags a.flags b.flags && (a.slba == b.slba) && (block_bytes a.block_size == block_bytes b.block_size) && (a.blocks == b.blocks) && same_pieces a.pieces b.pieces
 
 abbrev pub asks_for : Request → Work → Bool
 asks_for request (Io r) = same_request request r
@@ -284,18 +286,25 @@ job_is test s q cid = option_map_or test (job_at s q cid) false
 abbrev pub no_io_queue : State → ℕ → Bool
 no_io_queue s q = (q == 0) || not (in_state in_service s q)
 
+-- whether a host takes blocks of a size
+abbrev pub takes : BlockSizes → BlockSize → Bool
+takes Any size = true
+takes Only512 Bytes512 = true
+takes Only512 size = false
+
 abbrev pub reserve_causes : State → ℕ → Request → Option RequestFault → List (Bool × Refusal)
 reserve_causes s q r bad =
     (no_io_queue s q, events.NoQueue)
     ∷ (in_state is_deleting s q, events.Deleting)
     ∷ (is_some bad, option_map_or events.Bad bad events.NoQueue)
+    ∷ (not (takes s.host.block_sizes r.block_size), events.OtherBlocks)
     ∷ (no_identifier s q, events.NoIdentifier)
     ∷ (nat_lt (length s.host.free) (pages_wanted s r), events.NoPages (pages_wanted s r) (length s.host.free))
     ∷ []
 
 -- what an event may be refused for, in the order of the checks, want of memory left aside; exact for the controller's events only where nothing was forged
 abbrev pub causes : State → Event → List (Bool × Refusal)
-causes s (events.Reserve q r) = reserve_causes s q r (fault_of r.kind r.blocks r.pieces)
+causes s (events.Reserve q r) = reserve_causes s q r (fault_of r.kind r.block_size r.blocks r.pieces)
 causes s (events.Submit d) =
     (not (record_is (is_of is_drafted d.request (numbers_of d.data_pages) (numbers_of d.chain_pages)) s d.q d.cid), events.Stranger)
     ∷ (is_none d.entry, events.NotBuilt)

@@ -10,6 +10,7 @@ use Rattle.controller_walk.specs.{Units.{touched as pages_touched, first_passing
 use Rattle.io_commands.specs.{Asked.Request, DataBytes.{data_length, filled}, Drafts.{DraftContents, built}}
 use Rattle.io_commands.specs.{Values.{FinishedContents, numbers_of, gathered_from}, declared.draft.FillFault.{FillFault, TheVariants.{NotASource, WrongLength}}}
 use Rattle.io_commands.specs.declared.request.{Kind.{Kind, TheVariants.Read}, Piece.Piece, TheConstants.Flags.NONE}
+use Rattle.io_commands.specs.declared.block_size.BlockSize.TheVariants.{Bytes512}
 use Rattle.page_memory.specs.Pages.{page_at}
 use Rattle.entry_codec.specs.declared.status.Status.{Status}
 use Rattle.machine_model.specs.Events as events
@@ -159,7 +160,7 @@ asked t q r =
     stepped t (events.Reserve q r) (events.Reserved d) (reserved q d.cid (numbers_of d.data_pages) (numbers_of d.chain_pages)) (λ t'. record t' { drafts = d ∷ t'.drafts })
 
 abbrev pub line : Table → Line → Table × Said × Option Made
-line t (reserve q kind slba blocks pieces) = asked t q (record { kind = kind; nsid = 1; flags = NONE; slba = slba; blocks = blocks; pieces = pieces })
+line t (reserve q kind slba blocks pieces) = asked t q (record { kind = kind; nsid = 1; flags = NONE; slba = slba; block_size = Bytes512; blocks = blocks; pieces = pieces })
 line t (ask q r) = asked t q r
 line t (fill q cid bytes) =
     with_kept (draft_of q cid t.drafts)

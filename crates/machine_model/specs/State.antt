@@ -5,6 +5,7 @@ use Rattle.entry_codec.specs.declared.{hints.Hints.Hints, status.Status.Status, 
 use Rattle.page_memory.specs.Pages.{Pages}
 use Rattle.machine_model.specs.Commands.{Work}
 use Rattle.queue_pair.specs.Rings.{HostRing}
+use Rattle.machine_model.specs.declared.words.BlockSizes.{BlockSizes}
 pub use Rattle.machine_model.specs.declared.words.Phase.{Phase}
 pub use Rattle.machine_model.specs.declared.words.Phase.TheVariants.{Drafted, Submitted, Held, Collected}
 pub use Rattle.machine_model.specs.declared.words.HostState.{HostState}
@@ -55,6 +56,7 @@ pub record ServedQueue : Type 0 where
 
 -- the host's part of the machine: what holds whatever was forged
 pub record Host : Type 0 where
+  pub block_sizes : BlockSizes
   pub free : List ℕ
   pub queues : List HostQueue
   pub records : List Record

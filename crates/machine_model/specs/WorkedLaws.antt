@@ -4,6 +4,7 @@ use Rattle.controller_walk.specs.declared.walk.WalkState.TheVariants.{More, End}
 use Rattle.sgl_descriptor.specs.{Spelling.spelling, declared.{Descriptor.{Descriptor, TheVariants.{DataBlock, Segment, LastSegment}}, Part.Part}}
 use Rattle.entry_codec.specs.{Submission.{submission_bytes, submission_of}, declared.submission.SubEntry.SubEntry}
 use Rattle.io_commands.specs.{Drafts.{DraftContents, IsDraft, io_entry, built}, declared.request.{Flags.Flags, Kind.TheVariants.Read, Piece.TheVariants.{Data, Bucket}, TheConstants.Flags.NONE}}
+use Rattle.io_commands.specs.declared.block_size.BlockSize.TheVariants.{Bytes512}
 use Rattle.sgl_chain.specs.{Chains.parts_from, Spells.Spells}
 use Rattle.machine_model.specs.{Image.{image_after, read_of, draft_of}, Opening.opening}
 use Rattle.machine_model.specs.Script.{collect, release, delete_sq, retire, Table, Line, Said, table, defaults, left_by, made_by, walks, reserve, build, submit, ring, fetch, walk, complete, reap, ok, fetched, walked, completed, reaps, refused}
@@ -51,10 +52,10 @@ SecondStepTouches pages = Answers walking (events.Walk 1 0) (events.Walked More 
 
 -- the second block is discarded
 abbrev pub read_with_bucket : List ℕ
-read_with_bucket = read_of (record { kind = Read; nsid = 1; flags = NONE; slba = 0; blocks = 2; pieces = Data 0 512 ∷ Bucket 512 ∷ [] }) (4 ∷ []) (replicate 32768 0)
+read_with_bucket = read_of (record { kind = Read; nsid = 1; flags = NONE; slba = 0; block_size = Bytes512; blocks = 2; pieces = Data 0 512 ∷ Bucket 512 ∷ [] }) (4 ∷ []) (replicate 32768 0)
 
 abbrev pub far_entry : SubEntry
-far_entry = io_entry 0 (record { kind = Read; nsid = 1; flags = NONE; slba = 4294967297; blocks = 1; pieces = Data 0 512 ∷ [] }) (spelling (DataBlock 16384 512))
+far_entry = io_entry 0 (record { kind = Read; nsid = 1; flags = NONE; slba = 4294967297; block_size = Bytes512; blocks = 1; pieces = Data 0 512 ∷ [] }) (spelling (DataBlock 16384 512))
 
 abbrev pub far_entry_read : SubEntry
 far_entry_read = submission_of (submission_bytes far_entry)
@@ -63,7 +64,7 @@ far_entry_read = submission_of (submission_bytes far_entry)
 abbrev pub cdw12_with : Bool → Bool → ℕ
 cdw12_with fua lr =
     let flags : Flags = record { force_unit_access = fua; limited_retry = lr } in
-    (io_entry 0 (record { kind = Read; nsid = 1; flags = flags; slba = 0; blocks = 8; pieces = Data 0 4096 ∷ [] }) (spelling (DataBlock 16384 4096))).cdw12
+    (io_entry 0 (record { kind = Read; nsid = 1; flags = flags; slba = 0; block_size = Bytes512; blocks = 8; pieces = Data 0 4096 ∷ [] }) (spelling (DataBlock 16384 4096))).cdw12
 
 -- What the definitions would let through without IsProper: a draft whose entry isn't its own, in a trusted world.
 abbrev pub renamed : SubEntry → SubEntry

@@ -1,12 +1,14 @@
 -- Worked runs of queues: slots, identifiers, pages, refusals, and how commands end.
 use Rattle.std.specs.{Option.option_map, Prelude.{ℕ, List, [], ◌∷◌, ◌++◌, replicate, Option, slice_get, true, false}}
 use Rattle.controller_walk.specs.declared.walk.WalkState.TheVariants.{More, End}
-use Rattle.machine_model.specs.After.{on_ring}
+use Rattle.machine_model.specs.{After.{on_ring}, Claims.{counts_of}}
 use Rattle.machine_model.specs.Script.{Line, Said, Table, defaults, played, left_by, carried, reserve, ask, fill, build, submit, cancel, ring, fetch, walk, complete, reap, collect, gather, release, abort, retire, ok, reserved, fetched, walked, completed, reaps, held, refused, not_filled, no_value}
 use Rattle.machine_model.specs.WorkedReads.{ordinary}
 use Rattle.io_commands.specs.declared.{draft.FillFault.TheVariants.{NotASource, WrongLength}, request.Kind.{Kind, TheVariants.{Read, Compare, Write}}}
-use Rattle.io_commands.specs.declared.request.{Piece.TheVariants.Data, RequestFault.TheVariants.LengthMismatch}
+use Rattle.io_commands.specs.declared.request.{Piece.TheVariants.Data, RequestFault.TheVariants.LengthMismatch, TheConstants.Flags.NONE}
+use Rattle.io_commands.specs.{Asked.Request, declared.block_size.BlockSize.TheVariants.{Bytes512, Bytes4096}}
 use Rattle.entry_codec.specs.declared.status.TheConstants.Status.{SUCCESS, COMPARE_FAILURE, INVALID_NAMESPACE, LBA_OUT_OF_RANGE}
+use Rattle.page_ledger.specs.declared.owner.Counts.{Counts}
 use Rattle.queue_pair.specs.Rings.{HostRing}
 use Rattle.machine_model.specs.Events as events
 
@@ -74,12 +76,29 @@ read_past_image_said =
 -- a Read of namespace 2, with both flags and past the image: the namespace is told first
 abbrev pub read_of_namespace_2 : List Line
 read_of_namespace_2 =
-    ask 1 (record { kind = Read; nsid = 2; flags = record { force_unit_access = true; limited_retry = true }; slba = 63; blocks = 2; pieces = Data 0 1024 ∷ [] })
+    ask 1 (record { kind = Read; nsid = 2; flags = record { force_unit_access = true; limited_retry = true }; slba = 63; block_size = Bytes512; blocks = 2; pieces = Data 0 1024 ∷ [] })
     ∷ build 1 0 ∷ submit 1 0 ∷ ring 1 ∷ fetch 1 ∷ walk 1 0 ∷ complete 1 0 ∷ reap 1 ∷ collect 1 0 ∷ []
 
 abbrev pub read_of_namespace_2_said : List Said
 read_of_namespace_2_said =
     reserved 1 0 (4 ∷ []) [] ∷ ok ∷ ok ∷ ok ∷ fetched 0 (2 ∷ []) ∷ refused events.Nothing ∷ completed (3 ∷ []) ∷ reaps (events.Done 0 INVALID_NAMESPACE) ∷ held INVALID_NAMESPACE ∷ []
+
+-- a Read of one block of 4,096 bytes, good in itself: the host of a world takes no such blocks. A fault of the request is told first, want of identifiers after
+abbrev pub large_block : Request
+large_block = record { kind = Read; nsid = 1; flags = NONE; slba = 0; block_size = Bytes4096; blocks = 1; pieces = Data 0 4096 ∷ [] }
+
+abbrev pub other_blocks : List Line
+other_blocks =
+    block Read 0 ∷ ask 1 large_block ∷ block Read 0 ∷ block Read 0 ∷ ask 1 large_block ∷ ask 1 (record large_block { blocks = 2 }) ∷ block Read 0 ∷ []
+
+abbrev pub other_blocks_said : List Said
+other_blocks_said =
+    reserved 1 0 (4 ∷ []) [] ∷ refused events.OtherBlocks ∷ reserved 1 1 (5 ∷ []) [] ∷ reserved 1 2 (6 ∷ []) []
+    ∷ refused events.OtherBlocks ∷ refused (events.Bad LengthMismatch) ∷ refused events.NoIdentifier ∷ []
+
+-- the counts, by a run's end
+abbrev pub counts_after : List Line → Counts
+counts_after lines = counts_of (left_by ordinary lines).world.host
 
 -- twelve pieces need thirteen pages, of which twelve are free; eleven pieces take all
 abbrev pub pages_run_out : List Line

@@ -57,6 +57,15 @@ impl HostState {
     }
 }
 
+/// Which sizes of blocks a host takes.
+#[derive(Clone, Copy, Debug, PartialEq, Eq)]
+pub enum BlockSizes {
+    /// 512 bytes alone, as the modelled controller has them.
+    Only512,
+    /// Each.
+    Any,
+}
+
 /// What an outstanding command is for.
 #[derive(Drop)]
 pub enum Work<R = Request> {
@@ -75,6 +84,8 @@ pub enum Refusal {
     Deleting,
     /// The request has a fault.
     Bad(RequestFault),
+    /// The host takes no blocks of the request's size.
+    OtherBlocks,
     /// Each identifier of the queue is outstanding.
     NoIdentifier,
     /// Too few pages are free.

@@ -5,6 +5,7 @@
 
 ghost use Rattle.std.specs.Prelude.{◌≡◌, [], ◌∷◌, None, Some, false, true, length};
 ghost use Rattle.entry_codec.specs.declared.hints.TheConstants.Hints.{NONE};
+ghost use Rattle.io_commands.specs.{Values.{IsGood}, declared.request.Kind.TheVariants.{Read}};
 ghost use Rattle.machine_model.specs.Events as events;
 ghost use Rattle.machine_model.specs.Opening as opens;
 ghost use Rattle.machine_model.specs.Script.{played, left_by, made_by, all_allowed, free_of, build};
@@ -57,7 +58,7 @@ pub fn worked_walks()
 {}
 
 /// Queues: the bytes of their slots as they turn, identifiers and pages that run out, two Compares, a Read past the image,
-/// the draft of another world, and refusals in their order.
+/// a request of other blocks, which changes no count, the draft of another world, and refusals in their order.
 pub fn worked_queues()
     ensures first_ring { queues.ring_of (left_by queues.two_entries queues.once) ≡ Some queues.ring_after_one }
     ensures second_ring { queues.ring_of (left_by (queues.turned_to queues.ring_after_one) queues.once) ≡ Some queues.ring_after_two }
@@ -72,6 +73,9 @@ pub fn worked_queues()
     ensures two_compares { played ordinary queues.two_compares ≡ queues.two_compares_said }
     ensures read_past_image { played ordinary queues.read_past_image ≡ queues.read_past_image_said }
     ensures read_of_namespace_2 { played ordinary queues.read_of_namespace_2 ≡ queues.read_of_namespace_2_said }
+    ensures large_block_is_good { IsGood queues.large_block }
+    ensures other_blocks { played ordinary queues.other_blocks ≡ queues.other_blocks_said }
+    ensures other_blocks_counts { queues.counts_after (queues.block Read 0 ∷ script.ask 1 queues.large_block ∷ []) ≡ queues.counts_after (queues.block Read 0 ∷ []) }
     ensures pages_run_out { played ordinary queues.pages_run_out ≡ queues.pages_run_out_said }
     ensures stranger { queues.stranger ≡ (script.refused events.Stranger ∷ script.ok ∷ []) }
     ensures refusals_in_order { played ordinary queues.refusals_in_order ≡ queues.refusals_in_order_said }

@@ -18,6 +18,7 @@ abbrev pub code_of_refusal : Refusal → ℕ
 code_of_refusal refusal.NoQueue = 10
 code_of_refusal refusal.Deleting = 11
 code_of_refusal (refusal.Bad fault) = code_of_request_fault fault
+code_of_refusal refusal.OtherBlocks = 35
 code_of_refusal refusal.NoIdentifier = 13
 code_of_refusal (refusal.NoPages need free) = 14
 code_of_refusal refusal.Memory = 15

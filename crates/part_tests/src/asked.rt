@@ -1,6 +1,6 @@
 //! Requests and pages as the tests ask for them.
 
-use io_commands::{Flags, Kind, Piece, Pieces, Request};
+use io_commands::{BlockSize, Flags, Kind, Piece, Pieces, Request};
 use page_memory::{Page, PageNo, Store};
 use std::alloc::{AllocError, Global};
 use std::process::Abort;
@@ -32,6 +32,7 @@ impl Asked {
             kind: self.kind,
             nsid: 1,
             flags: Flags::NONE,
+            block_size: BlockSize::Bytes512,
             slba: 0,
             blocks: self.blocks,
             pieces,

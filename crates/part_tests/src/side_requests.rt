@@ -1,6 +1,6 @@
 //! Requests.
 
-use io_commands::{Flags, Kind, Piece, Pieces, Request};
+use io_commands::{BlockSize, Flags, Kind, Piece, Pieces, Request};
 use std::alloc::{AllocError, Allocator};
 
 /// A request of so many blocks from block 0 on, each in a page of its own.
@@ -20,6 +20,7 @@ pub(crate) fn of_blocks<A: Allocator>(
         kind,
         nsid: 1,
         flags: Flags::NONE,
+        block_size: BlockSize::Bytes512,
         slba: 0,
         blocks,
         pieces,

@@ -78,7 +78,7 @@ drafted s q r cid =
 
 by_reserve : (s : State) (q : ℕ) (r : Request) → IsSound s → IsProper (events.Reserve q r) → refusal_of s (events.Reserve q r) ≡ None → IsAccepted s (events.Reserve q r)
 by_reserve s q r sound proper none =
-    let third : (no_identifier s q ≡ false) × (nat_lt (length s.host.free) (pages_wanted s r) ≡ false) = let fails = unrefused s (events.Reserve q r) none in (fails.1.1.1.0, fails.1.1.1.1.0) in
+    let third : (no_identifier s q ≡ false) × (nat_lt (length s.host.free) (pages_wanted s r) ≡ false) = let fails = unrefused s (events.Reserve q r) none in (fails.1.1.1.1.0, fails.1.1.1.1.1.0) in
     let id : (cid : ℕ) × IsNewIdentifier s q cid = new_identifier s q third.0 in
     let d : DraftContents = drafted s q r id.0 in
     let enough : data_count r.pieces + chain_wanted s.host.free s.segment r.pieces ≤ length s.host.free = room_for s.host.free s.segment r.pieces (let h = third.1 in grind (arith, nat_tests, h)) in

@@ -18,7 +18,7 @@ use Rattle.sgl_descriptor.specs.{Spelling.spelling, declared.Direction.{Directio
 use Rattle.entry_codec.specs.{Status.is_success, declared.{admin_opcode.TheConstants.{ABORT, DELETE_IO_SQ}, io_opcode.TheConstants.COMPARE, status.Status.Status}}
 use Rattle.entry_codec.specs.declared.status.TheConstants.Status.{SUCCESS, ABORT_REQUESTED, ABORTED_SQ_DELETION, INVALID_OPCODE, INVALID_NAMESPACE, LBA_OUT_OF_RANGE, COMPARE_FAILURE}
 use Rattle.entry_codec.specs.declared.submission.SubEntry.{SubEntry}
-use Rattle.io_commands.{proofs.Building.{entry_blocks, few_blocks}, specs.{Asked.Request, Drafts.io_entry}}
+use Rattle.io_commands.{proofs.Building.{entry_blocks, few_blocks, few_of_a_size}, specs.{Asked.Request, Drafts.io_entry}}
 use Rattle.io_commands.specs.Jobs.{verdict_of, io_fault, bytes_after_check, first_block, block_number, need_of_entry, kind_of_opcode, direction_of_entry}
 use Rattle.io_commands.specs.{Values.IsGood, Requests.moves_data, declared.request.Kind.{Kind, TheVariants.{Write, Compare}}}
 use Rattle.run_laws.specs.Statuses.{fetches, aborts, deletes, since_fetch, fetches_by, managed_entry, status_by, has_cause, is_unknown, misses_namespace, passes_image, is_compare, every_status_has_its_cause}
@@ -165,10 +165,17 @@ entry_fault blocks e = if is_none (kind_of_opcode e.opcode) then Some INVALID_OP
 at_most_2048 : (n : ℕ) → n ≤ 2048 → nat_lt 2048 n ≡ false
 at_most_2048 n few = grind (arith, nat_tests, few)
 
+-- in blocks of any size there are at most 2,048
+few_in : (r : Request) → IsGood r → r.blocks ≤ 2048
+few_in r good =
+    let most = few_blocks r.kind r.block_size r.blocks r.pieces good in
+    let few = few_of_a_size r.block_size in
+    omega (arith, most, few)
+
 good_fault : (blocks cid : ℕ) (r : Request) (sgl1 : List ℕ) → IsGood r → io_fault blocks (io_entry cid r sgl1) ≡ entry_fault blocks (io_entry cid r sgl1)
 good_fault blocks cid r sgl1 good = elim (cases_Bool (moves_data r.kind)) [
   | inl moves ↦
-      let few = at_most_2048 (block_number (io_entry cid r sgl1)) (subst (λ (n : ℕ). n ≤ 2048) (sym (entry_blocks cid r sgl1 good moves)) (few_blocks r.kind r.blocks r.pieces good)) in
+      let few = at_most_2048 (block_number (io_entry cid r sgl1)) (subst (λ (n : ℕ). n ≤ 2048) (sym (entry_blocks cid r sgl1 good moves)) (few_in r good)) in
       rw (ap is_none (moving_kind r.kind moves), moves, few) refl
   | inr still ↦ rw (ap is_none (still_kind r.kind still)) refl
 ]

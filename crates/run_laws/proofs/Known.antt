@@ -25,6 +25,7 @@ use Rattle.two_sides.proofs.{Commands.{walk_writes_to, submitted_pages}, JobLaws
 use Rattle.two_sides.proofs.Provided.{In, sent_found, in_at}
 use Rattle.two_sides.proofs.Served.{requests_same, entry_direction, Stood, counts_sent, data_of, good_is, JobList, job_list, same_list, course_in, CourseWhole, course_whole}
 use Rattle.two_sides.proofs.{TiedAll.Grounds, Untouched.{owned_once, untouched}}
+use Rattle.two_sides.proofs.Standing.{io_other}
 use Rattle.run_laws.proofs.Carrying.{carried, did, carried_more, carried_same, MovesTo, moves_to, carried_length, carried_byte, Stands, Gathers, IsPlace, gathers_pieces, all_stand, none_discarded, source_places}
 use Rattle.run_laws.proofs.KnownKinds.{list_moves, opcode_had}
 use Rattle.run_laws.proofs.{Causes.goes_well, Moves.{RecordsMove, records_event, JobsMove, jobs_event, walked_bytes}}
@@ -266,9 +267,23 @@ jobs_known s e reply ok stood = record {
 
 -- Every event
 
+-- the work of a record that a draft fits is its request
+asked_work : (request : Request) (w : Work) → asks_for request w ≡ true → (r : Request) × (w ≡ Io r)
+asked_work request (Io r) asks = (r, refl)
+asked_work request (Management a) asks = absurd (true≢false (sym asks))
+
+fits_work : (d : DraftContents) (r : Record) → is_of is_drafted d.request (numbers_of d.data_pages) (numbers_of d.chain_pages) r ≡ true → asks_for d.request r.work ≡ true
+fits_work d r is =
+    let abc_d = and_parts (is_drafted r.phase && asks_for d.request r.work && pointwise nat_eq (numbers_of d.data_pages) r.data_pages) (pointwise nat_eq (numbers_of d.chain_pages) r.chain_pages) is in
+    let ab_c = and_parts (is_drafted r.phase && asks_for d.request r.work) (pointwise nat_eq (numbers_of d.data_pages) r.data_pages) abc_d.0 in
+    (and_parts (is_drafted r.phase) (asks_for d.request r.work) ab_c.0).1
+
 -- no draft is of queue 0
 drafts_elsewhere : (s : State) (e : Event) (reply : Reply) → Accepts s e reply → Stood s → (d : DraftContents) → e ≡ events.Submit d → (d.q == 0) ≡ false
-drafts_elsewhere s e reply ok stood d is = grind (arith, submit_record, ids_of, all-found)
+drafts_elsewhere s e reply ok stood d is =
+    let x = submit_record s d (subst (λ (x : Event). refusal_of s x ≡ None) is ok.0) in
+    let io = asked_work d.request x.0.work (fits_work d x.0 x.2) in
+    io_other s d.q d.cid x.0 io.0 stood.grounds.stands.0 x.1 io.1
 
 pub known_on : (drafts : List DraftContents) (s : State) (e : Event) (reply : Reply) → IsProper e → Accepts s e reply → Stood s → Known drafts s → Known (submitted_by e reply ++ drafts) (a.after s e reply)
 known_on drafts s e reply proper ok stood h = record {

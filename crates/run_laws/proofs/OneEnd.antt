@@ -14,7 +14,7 @@ use Rattle.machine_model.{proofs.TokensKept.{no_completions_at, no_unfetched}, s
 use Rattle.machine_model.specs.{Opening.{served_queue as opened, Opens, opening}, Positions.IsInRing, Proper.IsProper}
 use Rattle.machine_model.specs.Refusals.{is_submitted, host_queue, served_queue, next_rung, job_at, front_completion, entry_of, queue_full, fetch_slot, in_service, is_reaped, is_held, record_is, seen_entry}
 use Rattle.machine_model.specs.State.{HostQueue, ServedQueue, PostedCompletion, State, Record, is_at, record_at, pages_of, with_record}
-use Rattle.machine_model.specs.Step.{HostPart, reaped, reaped_as, reaped_entry, submitted_at, fits_ring, IsController, Step, finished_from}
+use Rattle.machine_model.specs.Step.{HostPart, reaped, reaped_as, reaped_entry, submitted_at, fits_ring, IsController, Answers, Step, finished_from}
 use Rattle.machine_model.specs.{Trusted.{TrustedRun, Steps}, Work.Work, declared.words.{HostState.TheVariants.{Live, Deleting}, Phase.Phase}}
 use Rattle.machine_model.specs.declared.words.{Phase.TheVariants.{Drafted, Submitted, Held, Collected}, Reaped.TheVariants.{Empty, Done, AdminDone, Rejected}}
 use Rattle.machine_model.specs.declared.words.{Refusal.Refusal, RejectedFor.TheVariants.{WrongQueue, BadHead, UnknownId}, Work.TheVariants.{Io, Management}}
@@ -408,8 +408,11 @@ not_with test q cid f none (r ∷ rs) = (one (is_at q cid r) refl, not_with test
     one true is at = none r
     one false is at = absurd (true≢false (sym at ∙ is))
 
+submit_answers : (s : State) (d : DraftContents) (reply : Reply) → Answers s (events.Submit d) reply → submits_by d.q d.cid (events.Submit d) reply ≡ true
+submit_answers s d reply answers = grind arith
+
 submit_by : (s : State) (d : DraftContents) (reply : Reply) → Accepts s (events.Submit d) reply → submits_by d.q d.cid (events.Submit d) reply ≡ true
-submit_by s d reply ok = grind arith
+submit_by s d reply ok = submit_answers s d reply ok.1
 
 pub submit_at : (s : State) (e : Event) (d : DraftContents) (reply : Reply) (q cid : ℕ) → Accepts s e reply → e ≡ events.Submit d → d.q ≡ q → d.cid ≡ cid → submits_by q cid e reply ≡ true
 submit_at s e d reply q cid ok is dq dc = grind (arith, submit_by)

@@ -15,7 +15,7 @@ use Rattle.entry_codec.specs.{Status.is_success, declared.status.{Status.Status,
 use Rattle.entry_codec.specs.declared.submission.SubEntry.{SubEntry}
 use Rattle.io_commands.{proofs.Building.{carries_entry, entry_blocks}, specs.{Asked.Request, Drafts.{DraftContents, io_entry}}}
 use Rattle.io_commands.specs.Jobs.{verdict_of, io_fault, bytes_after_check, need_of_entry, direction_of_entry, direction_by, kind_of_opcode, first_block, block_number}
-use Rattle.io_commands.specs.{Requests.{parts_of, direction_of, moves_data, need_of}, Values.numbers_of, declared.request.Kind.{Kind, TheVariants.Read}}
+use Rattle.io_commands.specs.{BlockSizes.block_bytes, declared.block_size.BlockSize.BlockSize, Requests.{parts_of, direction_of, moves_data, need_of}, Values.numbers_of, declared.request.Kind.{Kind, TheVariants.Read}}
 use Rattle.machine_model.proofs.{Cases.none_some, Counting.held_once, Owned.{in_record, in_queue}, Steps.{Accepts, pages_match}}
 use Rattle.machine_model.specs.{After.{course_of, final_status}, Agreeing.unfetched_count, Claims.OwnsFit, Events.{Event, Reply}}
 use Rattle.machine_model.specs.{Image.{draft_of, submitted_by}, Memory.memory_of, Proper.IsProper}
@@ -246,7 +246,8 @@ targets_length s r request m w kind =
     let sized = sized_of s r request m w in
     length-targets Destination (parts_of request.pieces r.data_pages)
     ∙ ap (λ (d : Direction). counted_in d (parts_of request.pieces r.data_pages)) (sym (ap direction_of kind))
-    ∙ parts_count request r.data_pages sized.good sized.pages ∙ ap (λ (k : Kind). need_of k request.blocks) kind
+    ∙ parts_count request r.data_pages sized.good sized.pages ∙ ap (λ (k : Kind). need_of k request.block_size request.blocks) kind
+    ∙ ap (λ (size : BlockSize). block_bytes size * request.blocks) sized.size
 
 -- a job that begins
 begun_reading : (s : State) (t : State) (at : Images) (r : Record) (request : Request) → Member s r → r.work ≡ Io request → request.kind ≡ Read → (q : ℕ) (e : SubEntry) (sgl1 : List ℕ) → e ≡ io_entry r.cid request sgl1

@@ -2,6 +2,7 @@
 use Rattle.std.specs.Prelude.{◌≡◌, ℕ, List, [], ◌∷◌, map, replicate}
 use Rattle.io_commands.specs.{Asked.Request, DataBytes.gathered, declared.{draft.FillFault.TheVariants.WrongLength, request.{Kind.TheVariants.Write, TheConstants.Flags.NONE}}}
 use Rattle.io_commands.specs.declared.request.Piece.{Piece, TheVariants.Data}
+use Rattle.io_commands.specs.declared.block_size.BlockSize.TheVariants.{Bytes512}
 use Rattle.machine_model.specs.{Script.{Line, Said, reserve, fill, build, submit, ok, reserved, not_filled, made_by}, Trusted.drafts_of, WorkedReads.ordinary}
 use Rattle.run_laws.specs.{Drafts.{ReservedCommand, fills_of, bytes_left}, Values.Done}
 use Rattle.step_core.specs.declared.step.Reply.TheVariants as reply
@@ -31,7 +32,7 @@ abbrev pub bytes_submitted : List (List ℕ)
 bytes_submitted = map (λ d. gathered d.request.pieces d.data_pages) (drafts_of (made_by ordinary filled_twice))
 
 abbrev pub write_at : ℕ → List Piece → Request
-write_at slba pieces = record { kind = Write; nsid = 1; flags = NONE; slba = slba; blocks = 1; pieces = pieces }
+write_at slba pieces = record { kind = Write; nsid = 1; flags = NONE; slba = slba; block_size = Bytes512; blocks = 1; pieces = pieces }
 
 -- A bench that does those steps up to the first submission
 

@@ -11,7 +11,7 @@ use Rattle.std.specs.{List.Contains, Prelude.{All, IfOk, IfSome, OnOk, OnErr, If
 use Rattle.io_commands.specs.{Requests.{FitsPiece, FitsRequest}, declared.request.{Kind.Kind, Piece.{Piece, TheVariants.{Data, Bucket}}}}
 use Rattle.two_sides.proofs.Provided.{all_append}
 use Rattle.script_cli.{proofs.Texts.{same_if_short, appends_more, keeps_then}, specs.Faults.fault_of_script}
-use Rattle.script_cli.specs.Grammar.{Words, ◌>>=◌, value_or, wanted, number_word, kind_word, hex_word, sixteen_bytes_word, namespace_word, named_word, nsid_words, vector_word, vector_words, begins_option, nothing_more, with_piece, pieces_from, request_words, reserve_line, fill_line, create_cq_line, forge_line, queue_line, command_line, verb_line, begins_comment, known_verb_line, line_of_words, words_of, line_of}
+use Rattle.script_cli.specs.Grammar.{Words, ◌>>=◌, value_or, wanted, number_word, kind_word, hex_word, sixteen_bytes_word, namespace_word, named_word, nsid_words, size_words, vector_word, vector_words, begins_option, nothing_more, with_piece, pieces_from, request_words, reserve_line, fill_line, create_cq_line, forge_line, queue_line, command_line, verb_line, begins_comment, known_verb_line, line_of_words, words_of, line_of}
 use Rattle.script_cli.specs.{Inputs.{IsFront, AreFirstOf, Gains}, Lines.{lines, before, onward}}
 use Rattle.script_cli.specs.{Numbers.{digits_from, if_below, number, hex, if_sixteen, sixteen_bytes}, Owners.owners_text}
 use Rattle.script_cli.specs.{Pieces.{number32, is_plus, data_of, data_piece, bucket_piece, piece}, Replies.reply_line}
@@ -152,7 +152,8 @@ request_fits : (kind : Kind) (slba blocks : ℕ) (ws : Words) → slba < 2 ^ 64 
 request_fits kind slba blocks ws low few =
     then_fits (λ r. All FitsPiece r.0) FitsRequest (pieces_from [] ws) _ (pieces_fit [] ws (All-nil FitsPiece)) λ pieces fit.
     then_fits (λ n. n.0 < 2 ^ 32) FitsRequest (nsid_words pieces.1) _ (nsid_fits pieces.1) λ nsid named.
-    whatever_fits FitsRequest (named_word (codes "fua") nsid.1) _ λ fua.
+    whatever_fits FitsRequest (size_words nsid.1) _ λ size.
+    whatever_fits FitsRequest (named_word (codes "fua") size.1) _ λ fua.
     whatever_fits FitsRequest (named_word (codes "lr") fua.1) _ λ lr.
     ended_fits FitsRequest lr.1 _ (record { nsid = named; slba = low; blocks = few; pieces = fit })
 

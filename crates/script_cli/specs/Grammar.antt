@@ -3,6 +3,7 @@
 use Rattle.std.specs.{List.list_any, Str.bytes_eq}
 use Rattle.std.specs.Prelude.{ℕ, ◌≡◌, ◌^◌, ◌==◌, ◌||◌, nat_lt, nat_le, codes, Bool, true, false, Option, Some, None, Result, Ok, Err, List, [], ◌∷◌, ◌++◌, length, if◌then◌else◌}
 use Rattle.io_commands.specs.{Asked.Request, declared.request.{Kind.Kind, Piece.Piece, TheConstants.Flags.NONE}}
+use Rattle.io_commands.specs.{BlockSizes.size_of, declared.block_size.BlockSize.{BlockSize, TheVariants.{Bytes512}}}
 use Rattle.script_cli.specs.{Lines.words, Numbers.{number, hex, sixteen_bytes, kind}, Pieces.piece, Verbs.{verb_named, queue_step, command_step}}
 use Rattle.script_cli.specs.declared.fault.{LineError.LineError, LineFault.LineFault}
 use Rattle.script_cli.specs.declared.fault.LineFault.TheVariants.{LongLine, NotAscii, UnknownVerb, MissingWord, BadKind, BadNumber, BadHex, BadPiece, ExtraWord}
@@ -64,6 +65,18 @@ nsid_words ws = do
   named ← named_word (codes "nsid") ws
   if named.0 then namespace_word named.1 else Ok (1, named.1)
 
+-- a block size of so many bytes
+abbrev pub size_word : Words → Result (BlockSize × Words) LineFault
+size_word ws = do
+  n ← number_word (2 ^ 64) ws
+  value_or BadNumber n.1 (size_of n.0)
+
+-- the block size that is named, or else 512 bytes
+abbrev pub size_words : Words → Result (BlockSize × Words) LineFault
+size_words ws = do
+  named ← named_word (codes "block_size") ws
+  if named.0 then size_word named.1 else Ok (Bytes512, named.1)
+
 -- the vector that is named, or else none
 abbrev pub vector_word : Words → Result (Option ℕ × Words) LineFault
 vector_word ws = do
@@ -77,7 +90,7 @@ vector_words ws = do
 
 -- a word that stands behind the pieces
 abbrev pub begins_option : List ℕ → Bool
-begins_option word = bytes_eq word (codes "nsid") || bytes_eq word (codes "fua") || bytes_eq word (codes "lr")
+begins_option word = bytes_eq word (codes "nsid") || bytes_eq word (codes "block_size") || bytes_eq word (codes "fua") || bytes_eq word (codes "lr")
 
 abbrev pub ends_pieces : Words → Bool
 ends_pieces [] = true
@@ -93,21 +106,22 @@ pieces_from so_far [] = Ok (so_far, [])
 pieces_from so_far (word ∷ rest) =
     if begins_option word then Ok (so_far, word ∷ rest) else with_piece so_far (λ pieces. pieces_from pieces rest) (piece word)
 
--- a request of namespace 1, without flags
+-- a request of namespace 1 with blocks of 512 bytes, without flags
 abbrev pub request_of : Kind → ℕ → ℕ → List Piece → Request
-request_of kind slba blocks pieces = record { kind = kind; nsid = 1; flags = NONE; slba = slba; blocks = blocks; pieces = pieces }
+request_of kind slba blocks pieces = record { kind = kind; nsid = 1; flags = NONE; slba = slba; block_size = Bytes512; blocks = blocks; pieces = pieces }
 
-abbrev pub with_options : Request → ℕ → Bool → Bool → Request
-with_options request nsid fua lr = record request { nsid = nsid; flags = record { force_unit_access = fua; limited_retry = lr } }
+abbrev pub with_options : Request → ℕ → BlockSize → Bool → Bool → Request
+with_options request nsid size fua lr = record request { nsid = nsid; block_size = size; flags = record { force_unit_access = fua; limited_retry = lr } }
 
--- a request, by the words that follow its number of blocks: its pieces, and then perhaps its namespace and its flags
+-- a request, by the words that follow its number of blocks: its pieces, and then perhaps its namespace, its block size and its flags
 abbrev pub request_words : Kind → ℕ → ℕ → Words → Result Request LineFault
 request_words kind slba blocks ws = do
   pieces ← pieces_from [] ws
   nsid ← nsid_words pieces.1
-  fua ← named_word (codes "fua") nsid.1
+  size ← size_words nsid.1
+  fua ← named_word (codes "fua") size.1
   lr ← named_word (codes "lr") fua.1
-  nothing_more lr.1 (with_options (request_of kind slba blocks pieces.0) nsid.0 fua.0 lr.0)
+  nothing_more lr.1 (with_options (request_of kind slba blocks pieces.0) nsid.0 size.0 fua.0 lr.0)
 
 abbrev pub reserve_line : Words → Result Line LineFault
 reserve_line ws = do

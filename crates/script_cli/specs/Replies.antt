@@ -55,6 +55,7 @@ abbrev pub refusal_name : Refusal → List ℕ
 refusal_name refusal.NoQueue = codes "NoQueue"
 refusal_name refusal.Deleting = codes "Deleting"
 refusal_name (refusal.Bad why) = codes "Bad"
+refusal_name refusal.OtherBlocks = codes "OtherBlocks"
 refusal_name refusal.NoIdentifier = codes "NoIdentifier"
 refusal_name (refusal.NoPages need free) = codes "NoPages"
 refusal_name refusal.Memory = codes "Memory"

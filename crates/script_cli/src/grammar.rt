@@ -23,6 +23,9 @@ const ANSWER: &str = ">";
 /// The word behind which the namespace of a request stands.
 pub const NSID: &str = "nsid";
 
+/// The word behind which the block size of a request stands.
+pub const BLOCK_SIZE: &str = "block_size";
+
 /// The word of Force Unit Access.
 pub const FUA: &str = "fua";
 
@@ -36,7 +39,10 @@ pub const VECTOR: &str = "vector";
 pub fn begins_option(word: &[u8]) -> bool
     ensures { result ≡ spec_begins_option word.now }
 {
-    word == NSID.as_bytes() || word == FUA.as_bytes() || word == LR.as_bytes()
+    word == NSID.as_bytes()
+        || word == BLOCK_SIZE.as_bytes()
+        || word == FUA.as_bytes()
+        || word == LR.as_bytes()
 }
 
 /// Takes the pieces of a request.
@@ -54,7 +60,7 @@ fn pieces(alloc: Global, words: &mut Words<'_>) -> Result<Pieces, LineError>
     Ok(pieces)
 }
 
-/// A request, by the words that follow its number of blocks: its pieces, and then perhaps its namespace and its flags.
+/// A request, by the words that follow its number of blocks: its pieces, and then perhaps its namespace, its block size and its flags.
 ///
 /// # Errors
 ///
@@ -70,6 +76,7 @@ pub fn read_request(
 {
     let pieces = pieces(alloc, words)?;
     let nsid = words.nsid()?;
+    let block_size = words.block_size()?;
     let force_unit_access = words.take_named(FUA);
     let limited_retry = words.take_named(LR);
     words.end()?;
@@ -81,6 +88,7 @@ pub fn read_request(
             limited_retry,
         },
         slba,
+        block_size,
         blocks,
         pieces,
     })

@@ -34,7 +34,9 @@ pub mod workload;
 pub use fault::{
     LineError, LineFault, NotClosed, RunFault, ScriptFault, not_opened, script_at_fault,
 };
-pub use grammar::{FUA, LR, NSID, VECTOR, begins_comment, begins_option, read_request, words_of};
+pub use grammar::{
+    BLOCK_SIZE, FUA, LR, NSID, VECTOR, begins_comment, begins_option, read_request, words_of,
+};
 pub use input::{ImageFault, ReadFault, read_first, read_image};
 pub use lines::split_line;
 pub use output::{flush, put};

@@ -135,6 +135,7 @@ pub fn refusal_name(why: Refusal) -> &'static str
         Refusal::NoQueue => "NoQueue",
         Refusal::Deleting => "Deleting",
         Refusal::Bad(_) => "Bad",
+        Refusal::OtherBlocks => "OtherBlocks",
         Refusal::NoIdentifier => "NoIdentifier",
         Refusal::NoPages { .. } => "NoPages",
         Refusal::Memory => "Memory",

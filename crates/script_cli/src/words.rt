@@ -2,16 +2,16 @@
 
 ghost use Rattle.std.specs.Prelude.{◌≡◌, ◌≤◌, ◌^◌, ◌∷◌, [], length, true, false, Ok, Err, MatchOption, MatchResult};
 ghost use Rattle.std.specs.List.{position_or_len};
-ghost use Rattle.script_cli.specs.Grammar.{number_word, kind_word, hex_word, sixteen_bytes_word, namespace_word, named_word, nsid_words, vector_words, begins_option as spec_begins_option, ends_pieces, nothing_more, IsErrorOf};
+ghost use Rattle.script_cli.specs.Grammar.{number_word, kind_word, hex_word, sixteen_bytes_word, namespace_word, named_word, nsid_words, size_word, size_words, vector_words, begins_option as spec_begins_option, ends_pieces, nothing_more, IsErrorOf};
 ghost use Rattle.script_cli.specs.Lines.{is_blank as spec_is_blank, is_solid, words};
 ghost use Rattle.script_cli.specs.declared.fault.LineFault.TheVariants.{MissingWord};
 ghost use Rattle.script_cli.specs.declared.script.Line.{Line};
 ghost use Rattle.io_commands.specs.Asked.{Request};
 
 use crate::fault::{LineError, LineFault};
-use crate::grammar::{NSID, VECTOR, begins_option};
+use crate::grammar::{BLOCK_SIZE, NSID, VECTOR, begins_option};
 use crate::values::{bytes, kind, number_below, number16, number32, number64, sixteen_bytes};
-use io_commands::Kind;
+use io_commands::{BlockSize, Kind};
 use std::alloc::Global;
 use std::marker::Model;
 use step_core::Bytes;
@@ -165,6 +165,17 @@ impl<'a> Words<'a> {
         Ok(n)
     }
 
+    /// Takes how many bytes a block has.
+    pub fn size(&mut self) -> Result<BlockSize, LineFault>
+        ensures { MatchResult result (λ size. size_word self.old ≡ Ok (size, self.new)) (λ fault. size_word self.old ≡ Err fault) }
+    {
+        let bytes = self.number64()?;
+        match BlockSize::of(bytes) {
+            Some(size) => Ok(size),
+            None => Err(LineFault::BadNumber),
+        }
+    }
+
     /// Takes the namespace of a request, which is 1 where none is named.
     pub(crate) fn nsid(&mut self) -> Result<u32, LineFault>
         ensures { MatchResult result (λ n. nsid_words self.old ≡ Ok (n, self.new)) (λ fault. nsid_words self.old ≡ Err fault) }
@@ -173,6 +184,17 @@ impl<'a> Words<'a> {
             self.namespace()
         } else {
             Ok(1)
+        }
+    }
+
+    /// Takes the block size of a request, which is 512 bytes where none is named.
+    pub(crate) fn block_size(&mut self) -> Result<BlockSize, LineFault>
+        ensures { MatchResult result (λ size. size_words self.old ≡ Ok (size, self.new)) (λ fault. size_words self.old ≡ Err fault) }
+    {
+        if self.take_named(BLOCK_SIZE) {
+            self.size()
+        } else {
+            Ok(BlockSize::Bytes512)
         }
     }
 

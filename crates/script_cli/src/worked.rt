@@ -3,6 +3,7 @@
 ghost use Rattle.std.specs.Prelude.{◌≡◌, ◌<◌, ℕ, List, length, ◌^◌, true, false, Some, None, Ok, Err, [], ◌∷◌, ◌++◌, codes};
 ghost use Rattle.io_commands.specs.declared.request.Kind.TheVariants as kind;
 ghost use Rattle.io_commands.specs.declared.request.Piece.TheVariants as piece;
+ghost use Rattle.io_commands.specs.declared.block_size.BlockSize.TheVariants as size;
 ghost use Rattle.script_cli.specs.Grammar.{line_of, request_of, with_options};
 ghost use Rattle.script_cli.specs.Lines.{lines, words};
 ghost use Rattle.script_cli.specs.Numbers.{number, hex};
@@ -56,6 +57,8 @@ pub fn lines_have_first_faults()
     ensures no_namespace { line_of (codes "reserve 1 read 0 1 0+512 nsid") ≡ Err fault.MissingWord }
     ensures namespace_0 { line_of (codes "reserve 1 read 0 1 0+512 nsid 0") ≡ Err fault.BadNumber }
     ensures namespace_too_large { line_of (codes "reserve 1 read 0 1 0+512 nsid 4294967296") ≡ Err fault.BadNumber }
+    ensures no_block_size { line_of (codes "reserve 1 read 0 1 0+512 block_size") ≡ Err fault.MissingWord }
+    ensures no_such_block_size { line_of (codes "reserve 1 read 0 1 0+512 block_size 520") ≡ Err fault.BadNumber }
     ensures no_vector { line_of (codes "create_cq 1 vector") ≡ Err fault.MissingWord }
     ensures vector_too_large { line_of (codes "create_cq 1 vector 65536") ≡ Err fault.BadNumber }
     ensures odd_hex { line_of (codes "fill 1 0 ABC") ≡ Err fault.BadHex }
@@ -87,6 +90,7 @@ pub fn faults_have_an_order()
     ensures flags_in_order { line_of (codes "reserve 1 read 0 1 0+512 lr fua") ≡ Err fault.ExtraWord }
     ensures flag_twice { line_of (codes "reserve 1 read 0 1 0+512 fua fua") ≡ Err fault.ExtraWord }
     ensures namespace_before_flags { line_of (codes "reserve 1 read 0 1 0+512 fua nsid 2") ≡ Err fault.ExtraWord }
+    ensures namespace_before_block_size { line_of (codes "reserve 1 read 0 1 0+512 block_size 512 nsid 2") ≡ Err fault.ExtraWord }
     ensures piece_behind_flag { line_of (codes "reserve 1 read 0 1 0+512 fua 0+512") ≡ Err fault.ExtraWord }
     ensures unnamed_vector { line_of (codes "create_cq 1 3") ≡ Err fault.ExtraWord }
     ensures vector_twice { line_of (codes "create_cq 1 vector 3 vector 3") ≡ Err fault.ExtraWord }
@@ -109,10 +113,11 @@ pub fn lines_are_steps()
     ensures pieces { line_of (codes "reserve 1 read 0 2 0+512 x512") ≡ Ok (line.Step (step.Reserve 1 (request_of kind.Read 0 2 (piece.Data 0 512 ∷ piece.Bucket 512 ∷ [])))) }
     ensures late_write { line_of (codes "reserve 1 write 5 1 0+512") ≡ Ok (line.Step (step.Reserve 1 (request_of kind.Write 5 1 (piece.Data 0 512 ∷ [])))) }
     ensures at_the_end { line_of (codes "reserve 1 read 63 2 0+1024") ≡ Ok (line.Step (step.Reserve 1 (request_of kind.Read 63 2 (piece.Data 0 1024 ∷ [])))) }
-    ensures all_options { line_of (codes "reserve 1 read 0 1 0+512 nsid 2 fua lr") ≡ Ok (line.Step (step.Reserve 1 (with_options (request_of kind.Read 0 1 (piece.Data 0 512 ∷ [])) 2 true true))) }
-    ensures largest_namespace { line_of (codes "reserve 1 read 0 1 0+512 nsid 4294967295") ≡ Ok (line.Step (step.Reserve 1 (with_options (request_of kind.Read 0 1 (piece.Data 0 512 ∷ [])) 4294967295 false false))) }
-    ensures force_unit_access { line_of (codes "reserve 1 read 0 1 0+512 fua") ≡ Ok (line.Step (step.Reserve 1 (with_options (request_of kind.Read 0 1 (piece.Data 0 512 ∷ [])) 1 true false))) }
-    ensures limited_retry { line_of (codes "reserve 1 read 0 1 lr") ≡ Ok (line.Step (step.Reserve 1 (with_options (request_of kind.Read 0 1 []) 1 false true))) }
+    ensures all_options { line_of (codes "reserve 1 read 0 1 0+512 nsid 2 block_size 4096 fua lr") ≡ Ok (line.Step (step.Reserve 1 (with_options (request_of kind.Read 0 1 (piece.Data 0 512 ∷ [])) 2 size.Bytes4096 true true))) }
+    ensures block_size { line_of (codes "reserve 1 read 0 1 0+512 block_size 512") ≡ Ok (line.Step (step.Reserve 1 (request_of kind.Read 0 1 (piece.Data 0 512 ∷ [])))) }
+    ensures largest_namespace { line_of (codes "reserve 1 read 0 1 0+512 nsid 4294967295") ≡ Ok (line.Step (step.Reserve 1 (with_options (request_of kind.Read 0 1 (piece.Data 0 512 ∷ [])) 4294967295 size.Bytes512 false false))) }
+    ensures force_unit_access { line_of (codes "reserve 1 read 0 1 0+512 fua") ≡ Ok (line.Step (step.Reserve 1 (with_options (request_of kind.Read 0 1 (piece.Data 0 512 ∷ [])) 1 size.Bytes512 true false))) }
+    ensures limited_retry { line_of (codes "reserve 1 read 0 1 lr") ≡ Ok (line.Step (step.Reserve 1 (with_options (request_of kind.Read 0 1 []) 1 size.Bytes512 false true))) }
     ensures fill { line_of (codes "fill 1 0 ABCD") ≡ Ok (line.Step (step.Fill 1 0 (171 ∷ 205 ∷ []))) }
     ensures abort { line_of (codes "abort 1 0") ≡ Ok (line.Step (step.Abort 1 0)) }
     ensures delete_cq { line_of (codes "delete_cq 1") ≡ Ok (line.Step (step.DeleteCq 1)) }

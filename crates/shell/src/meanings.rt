@@ -6,7 +6,7 @@ use std::alloc::{AllocError, Global};
 use texts::faults::nearest;
 
 /// Why a step is refused: what stands behind `refused`.
-pub const REFUSALS: [(&str, &str); 28] = [
+pub const REFUSALS: [(&str, &str); 29] = [
     (
         "NoValue",
         "no draft, ticket or finished command of this queue and identifier is kept here; which of them the verb wants, docs/PROFILE.md says",
@@ -20,6 +20,10 @@ pub const REFUSALS: [(&str, &str); 28] = [
         "the queue is being deleted, and takes no new commands",
     ),
     ("Bad", "the request is at fault; the name after it says how"),
+    (
+        "OtherBlocks",
+        "the controller has blocks of another size than the request",
+    ),
     (
         "NoIdentifier",
         "a queue of n entries has n - 1 identifiers, and all are outstanding: release a command first",
@@ -117,10 +121,13 @@ pub const REASONS: [(&str, &str); 8] = [
         "CrossesPage",
         "a data piece passes the end of its page of 4,096 bytes",
     ),
-    ("BadCount", "a command moves 1 to 2,048 blocks"),
+    (
+        "BadCount",
+        "a command has 1 block to 1 MiB of them, and a flush none",
+    ),
     (
         "LengthMismatch",
-        "the lengths of all pieces together are not 512 bytes a block",
+        "the lengths of all pieces together are not the bytes of the blocks",
     ),
     (
         "WrongQueue",

@@ -6,7 +6,8 @@ use entry_codec::status_names::Named;
 use script_cli::{CommandVerb, QueueVerb, Verb, put_gathered};
 use std::alloc::{AllocError, Global};
 use step_core::{
-    Bytes, FillFault, Flags, Kind, Piece, Pieces, Reaped, Refusal, Reply, Request, Status, Step,
+    BlockSize, Bytes, FillFault, Flags, Kind, Piece, Pieces, Reaped, Refusal, Reply, Request,
+    Status, Step,
 };
 use texts::traces::Traced;
 
@@ -50,6 +51,7 @@ impl Hand<'_> {
             kind,
             nsid: 1,
             flags: Flags::NONE,
+            block_size: BlockSize::Bytes512,
             slba,
             blocks,
             pieces,

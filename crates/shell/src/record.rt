@@ -1,9 +1,9 @@
 //! What a session did, kept as a transcript.
 
 use script_cli::transcripts::{MAX_TRANSCRIPT, Options};
-use script_cli::{FUA, LR, NSID, VECTOR, Verb, append_counts, append_reply};
+use script_cli::{BLOCK_SIZE, FUA, LR, NSID, VECTOR, Verb, append_counts, append_reply};
 use std::alloc::{AllocError, Global};
-use step_core::{Counts, Flags, Kind, Piece, Reply, Request, Step};
+use step_core::{Counts, Kind, Piece, Reply, Request, Step};
 
 /// The most bytes that a line of a script can fill any draft with: two digits each, behind `fill 65535 65535 `.
 const MOST_FILLED: usize = 8_183;
@@ -32,10 +32,14 @@ fn put_hex(out: &mut String, bytes: &[u8]) -> Result<(), AllocError> {
     Ok(())
 }
 
-/// Puts the words of a namespace and of flags, as far as they differ from 1 and from none.
-fn put_options(out: &mut String, nsid: u32, flags: Flags) -> Result<(), AllocError> {
+/// Puts the words of a namespace, a block size and flags, as far as they differ from 1, from 512 and from none.
+fn put_options(out: &mut String, request: &Request) -> Result<(), AllocError> {
+    let (nsid, bytes, flags) = (request.nsid, request.block_size.bytes(), request.flags);
     if nsid != 1 {
         write!(out, " {NSID} {nsid}")?;
+    }
+    if bytes != 512 {
+        write!(out, " {BLOCK_SIZE} {bytes}")?;
     }
     if flags.force_unit_access {
         write!(out, " {FUA}")?;
@@ -64,7 +68,7 @@ fn put_request(out: &mut String, request: &Request) -> Result<(), AllocError> {
             Piece::Bucket { len } => write!(out, " x{len}")?,
         }
     }
-    put_options(out, request.nsid, request.flags)
+    put_options(out, request)
 }
 
 /// Puts the words behind the verb of a step.

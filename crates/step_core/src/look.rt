@@ -36,7 +36,7 @@ impl<A: Allocator + Copy> World<A> {
     /// The first fault of the request.
     pub fn least_pages<B: Allocator>(&self, request: &Request<B>) -> Result<u32, RequestFault>
         ensures least { IfOk result (λ pages. pages ≡ spec_least_pages request.now.pieces self.now.state.segment) }
-        ensures fault { result_err result ≡ fault_of request.now.kind request.now.blocks request.now.pieces }
+        ensures fault { result_err result ≡ fault_of request.now.kind request.now.block_size request.now.blocks request.now.pieces }
     {
         self.host.least_pages(request)
     }

@@ -2,7 +2,7 @@
 use Rattle.std.specs.Prelude.{◌++◌, ℕ, Bool, false, true, List, [], ◌∷◌, codes, if◌then◌else◌}
 use Rattle.script_cli.specs.Verbs.{verb_text}
 use Rattle.script_cli.specs.declared.verb.Verb.{Verb, TheVariants.{CreateCq, Fill, Forge, OnCommand, OnQueue, Owners, Reserve, Reset}}
-use Rattle.texts.specs.declared.faults.forms.Slot.{Slot, TheVariants.{Blocks, Bytes, CompletionSlot, EntryBytes, FirstBlock, Identifier, Kind, Namespace, Queue, Submitter, Vector}}
+use Rattle.texts.specs.declared.faults.forms.Slot.{Slot, TheVariants.{BlockSize, Blocks, Bytes, CompletionSlot, EntryBytes, FirstBlock, Identifier, Kind, Namespace, Queue, Submitter, Vector}}
 
 -- the name of a word that is wanted
 abbrev pub slot_name : Slot → List ℕ
@@ -13,6 +13,7 @@ slot_name Kind = codes "KIND"
 slot_name FirstBlock = codes "SLBA"
 slot_name Blocks = codes "BLOCKS"
 slot_name Namespace = codes "N"
+slot_name BlockSize = codes "N"
 slot_name Vector = codes "N"
 slot_name Bytes = codes "HEX"
 slot_name EntryBytes = codes "HEX"

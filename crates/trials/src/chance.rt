@@ -3,7 +3,7 @@
 ghost use Rattle.std.specs.Prelude.{◌≤◌};
 
 use crate::random::SplitMix64;
-use io_commands::{Flags, Kind, Piece, Pieces, Request};
+use io_commands::{BlockSize, Flags, Kind, Piece, Pieces, Request};
 use std::alloc::{AllocError, Global};
 use step_core::Config;
 
@@ -111,6 +111,7 @@ pub fn request(alloc: Global, random: &mut SplitMix64) -> Result<Request, AllocE
         kind,
         nsid: 1,
         flags: Flags::NONE,
+        block_size: BlockSize::Bytes512,
         slba,
         // A few requests have none, or too many.
         blocks: match random.up_to(63) {

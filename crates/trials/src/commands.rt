@@ -5,7 +5,7 @@ ghost use Rattle.std.specs.Prelude.{◌≡◌, IfOk};
 use crate::fault::Fault;
 use crate::heap::Used;
 use crate::stage::STAGES;
-use io_commands::{Flags, Kind, Piece, Pieces, RequestOf};
+use io_commands::{BlockSize, Flags, Kind, Piece, Pieces, RequestOf};
 use linked_list_allocator::LocalHeap;
 use std::alloc::AllocError;
 use step_core::{Reply, Step, StepIn};
@@ -24,6 +24,7 @@ fn reserve<'a>(heap: &'a LocalHeap, block: u16) -> Result<StepIn<&'a LocalHeap>,
             kind: Kind::Read,
             nsid: 1,
             flags: Flags::NONE,
+            block_size: BlockSize::Bytes512,
             slba: u64::from(block),
             blocks: 1,
             pieces,

@@ -1,6 +1,6 @@
 //! The Reads, and the world over which they are carried through.
 
-use io_commands::{Flags, Kind, Piece, Pieces, Request};
+use io_commands::{BlockSize, Flags, Kind, Piece, Pieces, Request};
 use std::alloc::{AllocError, Global};
 use step_core::Config;
 
@@ -65,6 +65,7 @@ pub fn request(alloc: Global, worker: u16, blocks: u32) -> Result<Request, Alloc
         kind: Kind::Read,
         nsid: 1,
         flags: Flags::NONE,
+        block_size: BlockSize::Bytes512,
         slba: u64::from(worker) * u64::from(MOST_BLOCKS),
         blocks,
         pieces,

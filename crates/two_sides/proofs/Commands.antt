@@ -26,12 +26,12 @@ use Rattle.machine_model.specs.Refusals.{is_submitted, is_job, is_drafted, is_li
 use Rattle.machine_model.specs.Standing.{HasEntry, ListStands, StandsAs, CommandStands, unfetched_at}
 use Rattle.machine_model.specs.State.{PostedCompletion, State, ServedQueue, Record, Job, pages_of, is_at, with_record, record_at, without_record}
 use Rattle.machine_model.specs.{Step.{times, HostPart, IsController}, Weights.{one, total, sent}, Work.Work, declared.words.Phase.TheVariants.{Drafted, Held}}
-use Rattle.machine_model.specs.declared.words.Work.TheVariants.{Io, Management}
+use Rattle.machine_model.specs.declared.words.{BlockSizes.TheVariants.{Only512}, Work.TheVariants.{Io, Management}}
 use Rattle.queue_pair.specs.Members.{change}
 use Rattle.two_sides.proofs.ControllerMoves.{unit_done, finished, cleared, fetch_by, walk_by, complete_by, unit_memory}
 use Rattle.two_sides.proofs.PlacesKept.{InHand, in_hand, first_is, on_job_q, on_job_entry, stopped_entry, PlacesIn}
 use Rattle.two_sides.proofs.Provided.{In, all_in_both, all_map, all_append, all_drop_one, in_found, in_at, all_in, all_with, is_found, sent_found}
-use Rattle.two_sides.proofs.Served.{counts_sent, chain_of, data_of, page_below, Stood, JobList, job_list, course_in, requests_same, first_read, brought, draft_spells}
+use Rattle.two_sides.proofs.Served.{counts_sent, chain_of, data_of, page_below, Stood, JobList, job_list, course_in, requests_same, reserved_size, first_read, brought, draft_spells}
 use Rattle.two_sides.proofs.{Standing.all_list, Tied.stopped_q, TiedAll.{Grounds, pair_at, ring_in}}
 use Rattle.two_sides.proofs.Untouched.{sent_page, owned_once, bytes_elsewhere, posts_elsewhere, untouched, PostsElsewhere, live_queue, is_walk}
 use Rattle.controller_walk.specs.Units.{Act, Stays, Reads, Moves, Course, Closes, Does, units}
@@ -172,7 +172,7 @@ pub quiet_stands : (m : Pages) (qs : List ServedQueue) (js : List Job) (f : Reco
 quiet_stands m qs js f work pages r far c = subst (StandsAs m qs js (f r)) (sym (work r)) (of r.work c)
   where
     of : (w : Work) → StandsAs m qs js r w → StandsAs m qs js (f r) w
-    of (Io request) c = (record { fits = c.0.fits; good = c.0.good; pages = ap length (pages r) ∙ c.0.pages }, λ sub. absurd (true≢false (sym sub ∙ far)))
+    of (Io request) c = (record { fits = c.0.fits; good = c.0.good; size = c.0.size; pages = ap length (pages r) ∙ c.0.pages }, λ sub. absurd (true≢false (sym sub ∙ far)))
     of (Management adm) c = tt
 
 -- Every event keeps the lists of submitted commands.
@@ -199,9 +199,9 @@ keeps_nothing qs js q cid entry h = h
 
 -- Reserving
 
-pub commands_reserve : (s : State) (q : ℕ) (r : Request) (d : DraftContents) → IsProper (events.Reserve q r) → Accepts s (events.Reserve q r) (events.Reserved d) → Grounds s → CommandsIn s → CommandsIn (a.after_reserve d s)
-commands_reserve s q r d proper ok g h =
-    let good : fault_of r.kind r.blocks r.pieces ≡ None = let e = (unrefused s (events.Reserve q r) ok.0).1.1.0 in grind arith in
+pub commands_reserve : (s : State) (q : ℕ) (r : Request) (d : DraftContents) → IsProper (events.Reserve q r) → Accepts s (events.Reserve q r) (events.Reserved d) → s.host.block_sizes ≡ Only512 → Grounds s → CommandsIn s → CommandsIn (a.after_reserve d s)
+commands_reserve s q r d proper ok only g h =
+    let good : fault_of r.kind r.block_size r.blocks r.pieces ≡ None = let e = (unrefused s (events.Reserve q r) ok.0).1.1.0 in grind arith in
     let new : Record = record { q = d.q; cid = d.cid; phase = Drafted; work = Io d.request; data_pages = numbers_of d.data_pages; chain_pages = numbers_of d.chain_pages; status = None; hints = NONE } in
     let m = without_pages (numbers_of d.data_pages ++ numbers_of d.chain_pages) s.memory in
     all_append (CommandStands m s.controller.queues s.controller.jobs) s.host.records (new ∷ [])
@@ -209,7 +209,8 @@ commands_reserve s q r d proper ok g h =
       (
         record {
           fits = subst FitsRequest (sym ok.1.request) proper;
-          good = subst (λ (x : Request). fault_of x.kind x.blocks x.pieces ≡ None) (sym ok.1.request) good;
+          good = subst (λ (x : Request). fault_of x.kind x.block_size x.blocks x.pieces ≡ None) (sym ok.1.request) good;
+          size = ap (λ (x : Request). x.block_size) ok.1.request ∙ reserved_size s q r only ok.0;
           pages = length-map d.data_pages (λ page. page.0) ∙ ok.1.data_pages ∙ ap (λ (x : Request). data_count x.pieces) (sym ok.1.request);
         },
         λ sub. absurd (true≢false (sym sub)),
@@ -339,7 +340,7 @@ commands_submit d entry r s proper e its live g few places same h =
     own : (entry : SubEntry) → d.entry ≡ Some entry → (w : Work) → r.work ≡ w → asks_for d.request w ≡ true
         → StandsAs (after_entry entry).memory (change d.q (λ at. record at { unfetched = at.unfetched ++ entry ∷ [] }) s.controller.queues) s.controller.jobs r w
         → StandsAs (after_entry entry).memory (change d.q (λ at. record at { unfetched = at.unfetched ++ entry ∷ [] }) s.controller.queues) s.controller.jobs (a.submitted r) w
-    own entry e (Io request) is asks c = (record { fits = c.0.fits; good = c.0.good; pages = c.0.pages }, λ sub. new_list entry e request (sym (requests_same d.request request asks)))
+    own entry e (Io request) is asks c = (record { fits = c.0.fits; good = c.0.good; size = c.0.size; pages = c.0.pages }, λ sub. new_list entry e request (sym (requests_same d.request request asks)))
     own entry e (Management adm) is asks c = tt
 
     -- another command's entries are where they were
@@ -407,7 +408,7 @@ commands_host s e reply pr ok c w h =
     all-filter (CommandStands s.memory (a.consumed q s).controller.queues s.controller.jobs) (λ r. not (is_at q cid r)) s.host.records (commands_consumed q s h.grounds h.commands) in
     host_moves (λ (e : Event) (reply : Reply) (t : State). IsProper e → SamePages s t.memory → CommandsIn t) s e reply ok c
     (record {
-      reserves = λ q request d none is pr same. commands_reserve s q request d pr (none, is) h.grounds h.commands;
+      reserves = λ q request d none is pr same. commands_reserve s q request d pr (none, is) h.only_512 h.grounds h.commands;
       submits = λ d entry r none built its live pr same. commands_submit d entry r s pr built its live h.grounds h.few h.places same h.commands;
       cancels = λ d r its pr same. commands_ended d.q d.cid (d.data_pages ++ d.chain_pages) s h.grounds same h.commands;
       rings = λ q none pr same.

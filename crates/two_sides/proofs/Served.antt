@@ -16,15 +16,16 @@ use Rattle.io_commands.specs.Requests.{parts_of, data_count, is_empty_piece, cro
 use Rattle.io_commands.specs.{Values.{IsGood, numbers_of, FinishedContents}, declared.request.{Flags.Flags, Kind.{Kind, TheVariants.{Read, Write, Compare, WriteZeroes, Verify, Flush}}, Piece.Piece}}
 use Rattle.io_commands.specs.declared.request.{Piece.TheVariants.{Data, Bucket}, RequestFault.RequestFault}
 use Rattle.io_commands.specs.declared.request.RequestFault.TheVariants.{TooManyPieces, EmptyPiece, CrossesPage, BadCount, LengthMismatch}
+use Rattle.io_commands.specs.{BlockSizes.{block_bytes}, declared.block_size.BlockSize.{BlockSize, TheVariants.{Bytes512, Bytes1024, Bytes2048, Bytes4096}}}
 use Rattle.machine_model.proofs.Counting.{times-append, held_once, times-cons}
 use Rattle.machine_model.proofs.Owned.{in_record, is_out, taken, none_here, in_is, holds_from_sound, taken_le, taken_from_out}
-use Rattle.machine_model.{proofs.Steps.{first_fails, rest_fails, in_store, length-in_store, found}, specs.After.course_of}
+use Rattle.machine_model.{proofs.Steps.{first_fails, rest_fails, in_store, length-in_store, found, unrefused}, specs.After.course_of}
 use Rattle.machine_model.specs.{Claims.{OwnsFit, IsSound}, Memory.{memory_of, with_pages, is_in}, Proper.{IsPage, ArePages, IsProperDraft}}
 use Rattle.machine_model.specs.Reached.{on_pages, LiesIn, IsThere, only, CourseIn, AreApart, IsListIn}
-use Rattle.machine_model.specs.Refusals.{is_submitted, same_piece, same_pieces, same_kind, same_flags, same_request, refusal_of, no_io_queue, in_state, is_deleting, no_identifier, pages_wanted, record_is, is_held}
+use Rattle.machine_model.specs.Refusals.{is_submitted, same_piece, same_pieces, same_kind, same_flags, same_request, refusal_of, record_is, is_held, takes}
 use Rattle.machine_model.specs.{Standing.{IsSized, ListStands, StandsAs, CommandStands, HasUnitLeft}, State.{State, Record, Job, is_at, record_at, pages_of}}
 use Rattle.machine_model.specs.{Step.{times, IsReserved, AnswersAnything, asked_by, finished_from, pages_with_bytes, zeroed}, Weights.{one, total}, Work.Work}
-use Rattle.machine_model.specs.declared.words.{Phase.TheVariants.{Drafted, Submitted, Held, Collected}, Refusal.Refusal, Work.TheVariants.{Io, Management}}
+use Rattle.machine_model.specs.declared.words.{BlockSizes.TheVariants.{Only512}, Phase.TheVariants.{Drafted, Submitted, Held, Collected}, Work.TheVariants.{Io, Management}}
 use Rattle.sgl_chain.proofs.{Back.spells_there, Joins.{joined_from, from_list, same_targets, same_count}, Spelled.spells}
 use Rattle.sgl_chain.specs.{Chains.{first_of, pages_needed}, Joining.{joins, both, joined}, Laws.HasBytesOf, Spells.{Spells, Holds}}
 use Rattle.controller_walk.{proofs.Same.list_served, specs.{Along.parts_of_list, Serving.Serves, Units.{Stays, Reads, Moves, Course, Closes, Does, verdict, after_read, course_of_list, entry_cursor, moving, pages_spanned, rest_of}}}
@@ -43,17 +44,17 @@ pub use Rattle.machine_model.specs.Agreeing.{is_out_of_service_at as past_at, co
 -- what a request that passes its check is
 pub record Good (r : Request) : Type 0 where
   pub crosses : list_any crosses_page r.pieces ≡ false
-  pub counted : counted_lengths r.kind r.pieces ≡ need_of r.kind r.blocks
+  pub counted : counted_lengths r.kind r.pieces ≡ need_of r.kind r.block_size r.blocks
 
 pub good_is : (r : Request) → IsGood r → Good r
 good_is r h =
-    let fourth = (not (is_count r.kind r.blocks), BadCount) ∷ (not (counted_lengths r.kind r.pieces == need_of r.kind r.blocks), LengthMismatch) ∷ [] in
+    let fourth = (not (is_count r.kind r.block_size r.blocks), BadCount) ∷ (not (counted_lengths r.kind r.pieces == need_of r.kind r.block_size r.blocks), LengthMismatch) ∷ [] in
     let third = (list_any crosses_page r.pieces, CrossesPage) ∷ fourth in
     let second = (list_any is_empty_piece r.pieces, EmptyPiece) ∷ third in
     record {
       crosses = first_fails (list_any crosses_page r.pieces) CrossesPage fourth
           (rest_fails (list_any is_empty_piece r.pieces) EmptyPiece third (rest_fails (nat_lt 1024 (length r.pieces)) TooManyPieces second h));
-      counted = counted r.kind r.blocks r.pieces h;
+      counted = counted r.kind r.block_size r.blocks r.pieces h;
     }
 
 -- The entry moves the request's bytes in its direction
@@ -61,8 +62,9 @@ good_is r h =
 pub entry_direction : (cid : ℕ) (r : Request) (sgl1 : List ℕ) → direction_of_entry (io_entry cid r sgl1) ≡ direction_of r.kind
 entry_direction cid r sgl1 = grind arith
 
-pub entry_need : (cid : ℕ) (r : Request) (sgl1 : List ℕ) → IsGood r → moves_data r.kind ≡ true → need_of_entry (io_entry cid r sgl1) ≡ need_of r.kind r.blocks
-entry_need cid r sgl1 good moves = ap (λ (n : ℕ). 512 * n) (entry_blocks cid r sgl1 good moves) ∙ sym (ap (λ (b : Bool). if b then 512 * r.blocks else 0) moves)
+pub entry_need : (cid : ℕ) (r : Request) (sgl1 : List ℕ) → IsGood r → r.block_size ≡ Bytes512 → moves_data r.kind ≡ true → need_of_entry (io_entry cid r sgl1) ≡ need_of r.kind r.block_size r.blocks
+entry_need cid r sgl1 good size moves =
+    ap (λ (n : ℕ). 512 * n) (entry_blocks cid r sgl1 good moves) ∙ sym (ap₂ (λ (b : Bool) (z : BlockSize). if b then block_bytes z * r.blocks else 0) moves size)
 
 -- The parts of its pieces
 
@@ -83,10 +85,10 @@ counted_parts kind moves (Data offset len ∷ pieces) [] few = absurd (grind (ar
 counted_parts kind moves (Data offset len ∷ pieces) (page ∷ pages) few =
     omega (arith, counted_parts kind moves pieces pages (grind (arith, common_steps)), sum_by-cons (counted_length kind) (Data offset len) pieces)
 
-pub parts_count : (r : Request) (pages : List ℕ) → IsGood r → length pages ≡ data_count r.pieces → counted_in (direction_of r.kind) (parts_of r.pieces pages) ≡ need_of r.kind r.blocks
+pub parts_count : (r : Request) (pages : List ℕ) → IsGood r → length pages ≡ data_count r.pieces → counted_in (direction_of r.kind) (parts_of r.pieces pages) ≡ need_of r.kind r.block_size r.blocks
 parts_count r pages good has = elim (cases_Bool (moves_data r.kind)) [
   | inl moves ↦ counted_parts r.kind moves r.pieces pages (omega (arith, has)) ∙ (good_is r good).counted
-  | inr still ↦ ap (λ (pieces : List Piece). counted_in (direction_of r.kind) (parts_of pieces pages)) (no_pieces r.kind r.blocks r.pieces good still) ∙ sym (ap (λ (b : Bool). if b then 512 * r.blocks else 0) still)
+  | inr still ↦ ap (λ (pieces : List Piece). counted_in (direction_of r.kind) (parts_of pieces pages)) (no_pieces r.kind r.block_size r.blocks r.pieces good still) ∙ sym (ap (λ (b : Bool). if b then block_bytes r.block_size * r.blocks else 0) still)
 ]
 
 -- each part that has a place lies in one of the pages
@@ -187,6 +189,7 @@ pub record Stood (s : State) : Type 0 where
   pub commands : Commands s.memory s.controller.queues s.controller.jobs s.host.records
   pub places : Places s.host.queues s.host.records s.controller.queues s.controller.jobs
   pub walks : AllByRecursion (HasUnitLeft s) s.controller.jobs
+  pub only_512 : s.host.block_sizes ≡ Only512
 
 -- The record of a job
 
@@ -370,8 +373,8 @@ course_whole s stood j l moves =
     let r = l.command in
     let g = good_is l.request l.sized.good in
     let same_direction : direction_of_entry j.entry ≡ direction_of l.request.kind = ap direction_of_entry l.entry ∙ entry_direction r.cid l.request (spelling l.list.first) in
-    let same_need : need_of_entry j.entry ≡ need_of l.request.kind l.request.blocks =
-    ap need_of_entry l.entry ∙ entry_need r.cid l.request (spelling l.list.first) l.sized.good moves in
+    let same_need : need_of_entry j.entry ≡ need_of l.request.kind l.request.block_size l.request.blocks =
+    ap need_of_entry l.entry ∙ entry_need r.cid l.request (spelling l.list.first) l.sized.good l.sized.size moves in
     let count : counted_in (direction_of_entry j.entry) (parts_of l.request.pieces r.data_pages) ≡ need_of_entry j.entry =
     ap (λ d. counted_in d (parts_of l.request.pieces r.data_pages)) same_direction ∙ parts_count l.request r.data_pages l.sized.good l.sized.pages ∙ sym same_need in
     let both = lists_end (memory_of s.memory) j.entry.sgl1 list.first (joined_parts l.request.pieces r.data_pages) (direction_of_entry j.entry) (need_of_entry j.entry)
@@ -446,23 +449,43 @@ flags_same a b h =
     ap₂ (λ (x y : Bool). let flags : Flags = record { force_unit_access = x; limited_retry = y } in flags)
     (bools_same a.force_unit_access b.force_unit_access parts.0) (bools_same a.limited_retry b.limited_retry parts.1)
 
+sizes_same : (a b : BlockSize) → block_bytes a ≡ block_bytes b → a ≡ b
+sizes_same Bytes512 Bytes512 same = refl
+sizes_same Bytes512 Bytes1024 same = absurd (omega (arith, same))
+sizes_same Bytes512 Bytes2048 same = absurd (omega (arith, same))
+sizes_same Bytes512 Bytes4096 same = absurd (omega (arith, same))
+sizes_same Bytes1024 Bytes512 same = absurd (omega (arith, same))
+sizes_same Bytes1024 Bytes1024 same = refl
+sizes_same Bytes1024 Bytes2048 same = absurd (omega (arith, same))
+sizes_same Bytes1024 Bytes4096 same = absurd (omega (arith, same))
+sizes_same Bytes2048 Bytes512 same = absurd (omega (arith, same))
+sizes_same Bytes2048 Bytes1024 same = absurd (omega (arith, same))
+sizes_same Bytes2048 Bytes2048 same = refl
+sizes_same Bytes2048 Bytes4096 same = absurd (omega (arith, same))
+sizes_same Bytes4096 Bytes512 same = absurd (omega (arith, same))
+sizes_same Bytes4096 Bytes1024 same = absurd (omega (arith, same))
+sizes_same Bytes4096 Bytes2048 same = absurd (omega (arith, same))
+sizes_same Bytes4096 Bytes4096 same = refl
+
 pub requests_same : (a b : Request) → same_request a b ≡ true → a ≡ b
 requests_same a b h =
-    let of : Kind → ℕ → Flags → ℕ → ℕ → List Piece → Request = λ k i f s n ps. record { kind = k; nsid = i; flags = f; slba = s; blocks = n; pieces = ps } in
-    let made : (k k' : Kind) (i i' : ℕ) (f f' : Flags) (s s' n n' : ℕ) (ps ps' : List Piece) → k ≡ k' → i ≡ i' → f ≡ f' → s ≡ s' → n ≡ n' → ps ≡ ps' → of k i f s n ps ≡ of k' i' f' s' n' ps' =
-    λ k k' i i' f f' s s' n n' ps ps' ek ei ef es en ep. rw (ek, ei, ef, es, en, ep) refl in
+    let of : Kind → ℕ → Flags → ℕ → BlockSize → ℕ → List Piece → Request = λ k i f s z n ps. record { kind = k; nsid = i; flags = f; slba = s; block_size = z; blocks = n; pieces = ps } in
+    let made : (k k' : Kind) (i i' : ℕ) (f f' : Flags) (s s' : ℕ) (z z' : BlockSize) (n n' : ℕ) (ps ps' : List Piece) → k ≡ k' → i ≡ i' → f ≡ f' → s ≡ s' → z ≡ z' → n ≡ n' → ps ≡ ps' → of k i f s z n ps ≡ of k' i' f' s' z' n' ps' =
+    λ k k' i i' f f' s s' z z' n n' ps ps' ek ei ef es ez en ep. rw (ek, ei, ef, es, ez, en, ep) refl in
     let kind = same_kind a.kind b.kind in
     let nsid = a.nsid == b.nsid in
     let flags = same_flags a.flags b.flags in
     let slba = a.slba == b.slba in
+    let size = block_bytes a.block_size == block_bytes b.block_size in
     let blocks = a.blocks == b.blocks in
-    let to_blocks = and_parts (kind && nsid && flags && slba && blocks) (same_pieces a.pieces b.pieces) h in
-    let to_slba = and_parts (kind && nsid && flags && slba) blocks to_blocks.0 in
+    let to_blocks = and_parts (kind && nsid && flags && slba && size && blocks) (same_pieces a.pieces b.pieces) h in
+    let to_size = and_parts (kind && nsid && flags && slba && size) blocks to_blocks.0 in
+    let to_slba = and_parts (kind && nsid && flags && slba) size to_size.0 in
     let to_flags = and_parts (kind && nsid && flags) slba to_slba.0 in
     let to_nsid = and_parts (kind && nsid) flags to_flags.0 in
     let first = and_parts kind nsid to_nsid.0 in
-    made a.kind b.kind a.nsid b.nsid a.flags b.flags a.slba b.slba a.blocks b.blocks a.pieces b.pieces (kinds_same a.kind b.kind first.0) (eqb-true a.nsid b.nsid first.1) (flags_same a.flags b.flags to_nsid.1)
-    (eqb-true a.slba b.slba to_flags.1) (eqb-true a.blocks b.blocks to_slba.1) (lists_same a.pieces b.pieces to_blocks.1)
+    made a.kind b.kind a.nsid b.nsid a.flags b.flags a.slba b.slba a.block_size b.block_size a.blocks b.blocks a.pieces b.pieces (kinds_same a.kind b.kind first.0) (eqb-true a.nsid b.nsid first.1) (flags_same a.flags b.flags to_nsid.1)
+    (eqb-true a.slba b.slba to_flags.1) (sizes_same a.block_size b.block_size (eqb-true (block_bytes a.block_size) (block_bytes b.block_size) to_slba.1)) (eqb-true a.blocks b.blocks to_size.1) (lists_same a.pieces b.pieces to_blocks.1)
 
 -- A descriptor whose fields fit is read back
 
@@ -495,7 +518,7 @@ pub first_read : (d : DraftContents) → IsProperDraft d → ((n : ℕ) → is_a
 first_read d proper low low' =
     reads_itself (draft_first d)
     (first_fits d.segment (numbers_of d.chain_pages) (draft_parts d) proper.draft.high
-    (omega (arith, few_pieces d.request.kind d.request.blocks d.request.pieces proper.draft.good, joined_parts_few d.request.pieces (numbers_of d.data_pages)))
+    (omega (arith, few_pieces d.request.kind d.request.block_size d.request.blocks d.request.pieces proper.draft.good, joined_parts_few d.request.pieces (numbers_of d.data_pages)))
     (joined_fit (parts_of d.request.pieces (numbers_of d.data_pages)) (parts_fit d.request.pieces (numbers_of d.data_pages) proper.request.pieces low)) low')
 
 -- Its pages in the store
@@ -579,12 +602,16 @@ both_zeroed (x ∷ xs) ys h =
 reserved_is_good : (s : State) (q : ℕ) (r : Request) → refusal_of s (events.Reserve q r) ≡ None → IsGood r
 reserved_is_good s q r h =
     let go : (o : Option RequestFault) → is_some o ≡ false → o ≡ None = λ o e. grind arith in
-    let bad : Option RequestFault = fault_of r.kind r.blocks r.pieces in
-    let later : List (Bool × Refusal) = (no_identifier s q, refusal.NoIdentifier) ∷ (nat_lt (length s.host.free) (pages_wanted s r), refusal.NoPages (pages_wanted s r) (length s.host.free)) ∷ [] in
-    go bad
-    (first_fails (is_some bad) (option_map_or refusal.Bad bad refusal.NoQueue) later
-    (rest_fails (in_state is_deleting s q) refusal.Deleting ((is_some bad, option_map_or refusal.Bad bad refusal.NoQueue) ∷ later)
-    (rest_fails (no_io_queue s q) refusal.NoQueue ((in_state is_deleting s q, refusal.Deleting) ∷ (is_some bad, option_map_or refusal.Bad bad refusal.NoQueue) ∷ later) h)))
+    go (fault_of r.kind r.block_size r.blocks r.pieces) (unrefused s (events.Reserve q r) h).1.1.0
+
+-- and where the host takes blocks of 512 bytes alone, it has such blocks
+only_takes : (size : BlockSize) → takes Only512 size ≡ true → size ≡ Bytes512
+only_takes Bytes512 h = refl
+only_takes size h = absurd (true≢false (sym h))
+
+pub reserved_size : (s : State) (q : ℕ) (r : Request) → s.host.block_sizes ≡ Only512 → refusal_of s (events.Reserve q r) ≡ None → r.block_size ≡ Bytes512
+reserved_size s q r only none =
+    only_takes r.block_size (ap (λ sizes. takes sizes r.block_size) (sym only) ∙ not-false (takes s.host.block_sizes r.block_size) (unrefused s (events.Reserve q r) none).1.1.1.0)
 
 reserved_draft : (s : State) (q : ℕ) (r : Request) (d : DraftContents) → IsInOrder s → IsGood r → IsReserved s q r d → IsDraft d
 reserved_draft s q r d order good reserved = record {

@@ -2,7 +2,7 @@
 use Rattle.std.specs.Prelude.{◌≡◌, ℕ, zero, suc, ◌+◌, true, None, List, [], ◌∷◌}
 use Rattle.controller_core.specs.{Opening.opened, declared.queue.QueuePages.QueuePages}
 use Rattle.host_core.specs.{Opening.{refusal_of_config, opened_view, opened_pages}, declared.config.Config.Config}
-use Rattle.machine_model.specs.Opening.{opening}
+use Rattle.machine_model.specs.{Opening.{opening}, declared.words.BlockSizes.TheVariants.{Only512}}
 use Rattle.page_memory.specs.declared.page.Half.TheVariants.{Submission, Completion}
 use Rattle.queue_pair.specs.Memory.{half_pages}
 use Rattle.two_sides.specs.{Sides.{Sides, state_of}, Ties.IsWorld}
@@ -13,11 +13,11 @@ halves_from page n zero = []
 halves_from page n (suc count) =
     record { sq = page; cq = page + half_pages n Submission } ∷ halves_from (page + half_pages n Submission + half_pages n Completion) n count
 
--- a host that opens, and a controller that opens with its queues' pages, over the host's pages
+-- a host that opens for blocks of 512 bytes, and a controller that opens with its queues' pages, over the host's pages
 abbrev pub opened_sides : Config → List ℕ → Sides
 opened_sides c image =
     record {
-      host = opened_view c;
+      host = opened_view c Only512;
       controller = opened c.entries (halves_from 0 c.entries (c.queues + 1)) image;
       pages = opened_pages c;
       trusted = true;

@@ -4,11 +4,12 @@ use Rattle.block_image.specs.Blocks.{IsImage}
 use Rattle.io_commands.specs.{Asked.Request, Requests.FitsRequest, Values.IsGood}
 use Rattle.machine_model.specs.{After.{after_reset, lost_anywhere}, Agreeing.SidesAgree, Always.IsHostProvided, Claims.IsSound, Events.{Event, Reply}}
 use Rattle.machine_model.specs.{Opening.{opening, Opens}, Run.Run, State.{State, Record, record_at}, Work.Work}
-use Rattle.machine_model.specs.declared.words.Work.TheVariants.{Io, Management}
+use Rattle.io_commands.specs.declared.block_size.BlockSize.TheVariants.{Bytes512}
+use Rattle.machine_model.specs.declared.words.{BlockSizes.TheVariants.{Only512}, Work.TheVariants.{Io, Management}}
 
--- an outstanding I/O command asks for what passes the check of requests
+-- an outstanding I/O command asks for what passes the check of requests, in blocks of 512 bytes
 abbrev pub IsChecked : Work → Type 0
-IsChecked (Io request) = FitsRequest request × IsGood request
+IsChecked (Io request) = FitsRequest request × IsGood request × (request.block_size ≡ Bytes512)
 IsChecked (Management a) = Unit {0}
 
 -- what holds of each world whatever was forged
@@ -17,6 +18,7 @@ pub record CanRecover (s : State) : Type 0 where
   pub provided : IsHostProvided s.entries s.segment s.host
   pub checked : AllByRecursion (λ r. IsChecked r.work) s.host.records
   -- the limits of the world
+  pub only_512 : s.host.block_sizes ≡ Only512
   pub some_entries : 0 < s.entries
   pub few_queues : length s.host.queues ≤ 65536
   pub few_pages : length s.memory ≤ 65536

@@ -22,7 +22,6 @@ pub fn hosts_answer_as_the_machine()
 {}
 
 /// A refusal of such a call changes neither side, and is a step of the machine.
-#[tactic(auto, using(crate::proofs::Assembling::refuse_as_machine))]
 pub fn hosts_refuse_as_the_machine()
     ensures { hosts_refuse }
 {}

@@ -6,7 +6,7 @@ use Rattle.entry_codec.specs.declared.{status.Status.Status, submission.SubEntry
 use Rattle.io_commands.specs.Jobs.{direction_of_entry, kind_of_opcode}
 use Rattle.page_memory.specs.Memory.{Memory}
 use Rattle.views.specs.Stored.{bytes_moved, status_by}
-use Rattle.views.specs.declared.explain.block_size.BlockSize.{BlockSize}
+use Rattle.io_commands.specs.declared.block_size.BlockSize.{BlockSize}
 
 -- the list of an entry whose blocks have such a size
 abbrev pub list_of : BlockSize → Memory → SubEntry → Course

@@ -4,7 +4,8 @@ use Rattle.controller_walk.specs.{Units.{Closes, Course, Does, Moves, Reads, Sta
 use Rattle.entry_codec.specs.declared.submission.SubEntry.{SubEntry}
 use Rattle.page_memory.specs.Memory.{Memory, bytes_at}
 use Rattle.sgl_descriptor.specs.declared.Direction.{Direction, TheVariants.Source}
-use Rattle.views.specs.{Ending.list_of, Stored.bytes_moved, declared.explain.block_size.BlockSize.BlockSize}
+use Rattle.views.specs.{Ending.list_of, Stored.bytes_moved}
+use Rattle.io_commands.specs.declared.block_size.BlockSize.{BlockSize}
 
 -- bytes with so many that were found put over those from an offset on
 abbrev pub put_over : List ℕ → ℕ → ℕ → Option (List ℕ) → List ℕ

@@ -5,18 +5,8 @@ use Rattle.controller_walk.specs.Units.{first_passing}
 use Rattle.entry_codec.specs.declared.{status.Status.Status, submission.SubEntry.SubEntry}
 use Rattle.entry_codec.specs.declared.status.TheConstants.Status.{SUCCESS, INVALID_OPCODE, INVALID_FIELD, INVALID_NAMESPACE, LBA_OUT_OF_RANGE, COMPARE_FAILURE}
 use Rattle.io_commands.specs.{Jobs.{kind_of_opcode, first_block, block_number}, declared.request.Kind.{Kind, TheVariants.Compare}}
-use Rattle.views.specs.declared.explain.{block_size.BlockSize.{BlockSize, TheVariants.{Bytes512, Bytes1024, Bytes2048, Bytes4096}}, namespace.GivenBlock.{GivenBlock}}
-
--- how many bytes a block has
-abbrev pub block_bytes : BlockSize → ℕ
-block_bytes Bytes512 = 512
-block_bytes Bytes1024 = 1024
-block_bytes Bytes2048 = 2048
-block_bytes Bytes4096 = 4096
-
--- how many blocks a command may move: those of 1 MiB
-abbrev pub most_blocks : BlockSize → ℕ
-most_blocks size = 1048576 / block_bytes size
+use Rattle.io_commands.specs.{BlockSizes.{block_bytes, most_blocks}, declared.block_size.BlockSize.{BlockSize}}
+use Rattle.views.specs.declared.explain.namespace.GivenBlock.{GivenBlock}
 
 -- how many bytes an entry's blocks have
 abbrev pub bytes_moved : BlockSize → SubEntry → ℕ

@@ -6,7 +6,6 @@
 //! lines are this project's own.
 
 mod answer;
-mod block_size;
 mod case;
 mod case_json;
 mod cause;
@@ -31,7 +30,6 @@ mod status_words;
 mod text;
 
 pub use answer::{Answer, Layout, explain_text};
-pub use block_size::BlockSize;
 pub use case::{Case, CaseReader};
 pub use command::{Explanation, explain};
 pub use fault::{CaseFault, Wrong};

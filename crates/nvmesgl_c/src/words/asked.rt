@@ -6,7 +6,7 @@ ghost use Rattle.nvmesgl_c.specs.Requests as requests;
 use crate::words::code::{BAD_OPTION, BAD_PIECE, BAD_SIZE, MEMORY, NO_KIND};
 use crate::words::piece::{CPiece, NoPieces, kind_of, pieces_of};
 use crate::words::reserved::has_set_word;
-use io_commands::{Flags, Request};
+use io_commands::{BlockSize, Flags, Request};
 use std::alloc::Global;
 
 /// How many bytes [`CRequest`] has.
@@ -32,13 +32,15 @@ pub struct CRequest {
     pub flags: u32,
     /// The first block.
     pub slba: u64,
-    /// How many blocks of 512 bytes.
+    /// How many blocks.
     pub blocks: u32,
+    /// How many bytes a block has; 0: 512.
+    pub block_bytes: u32,
     /// Zeros.
-    pub reserved: [u32; 5],
+    pub reserved: [u32; 4],
 }
 
-/// What is asked for in namespace 1, with no flag.
+/// What is asked for in namespace 1, with no flag, in blocks of 512 bytes.
 pub fn plain(kind: u32, slba: u64, blocks: u32) -> CRequest
     ensures { result ≡ requests.plain kind slba blocks }
 {
@@ -49,7 +51,8 @@ pub fn plain(kind: u32, slba: u64, blocks: u32) -> CRequest
         flags: 0,
         slba,
         blocks,
-        reserved: [0; 5],
+        block_bytes: 0,
+        reserved: [0; 4],
     }
 }
 
@@ -66,11 +69,21 @@ fn flags_of(number: u32) -> Option<Flags>
     })
 }
 
+/// The block size of so many bytes, if there is one.
+fn size_of(bytes: u32) -> Option<BlockSize>
+    ensures { result ≡ requests.size_of_bytes bytes }
+{
+    if bytes == 0 {
+        return Some(BlockSize::Bytes512);
+    }
+    BlockSize::of(u64::from(bytes))
+}
+
 /// The request that C asks for. Of more pieces than a command has, one more than that is looked at.
 ///
 /// # Errors
 ///
-/// The code of the first that holds: the struct has another size; a reserved word is not 0, or a flag is unknown; the kind is none; the kind of a piece is
+/// The code of the first that holds: the struct has another size; a reserved word is not 0, or a flag or the block size is unknown; the kind is none; the kind of a piece is
 /// none; memory is refused.
 pub fn asked_of(alloc: Global, asked: &CRequest, pieces: &[CPiece]) -> Result<Request, u32>
     ensures { requests.IsMade (requests.asked_of asked.now (requests.looked_at pieces.now)) result }
@@ -82,6 +95,9 @@ pub fn asked_of(alloc: Global, asked: &CRequest, pieces: &[CPiece]) -> Result<Re
         return Err(BAD_OPTION);
     }
     let Some(flags) = flags_of(asked.flags) else {
+        return Err(BAD_OPTION);
+    };
+    let Some(block_size) = size_of(asked.block_bytes) else {
         return Err(BAD_OPTION);
     };
     let Some(kind) = kind_of(asked.kind) else {
@@ -97,6 +113,7 @@ pub fn asked_of(alloc: Global, asked: &CRequest, pieces: &[CPiece]) -> Result<Re
         nsid: asked.nsid.max(1),
         flags,
         slba: asked.slba,
+        block_size,
         blocks: asked.blocks,
         pieces,
     })

@@ -23,7 +23,7 @@ pub const TOO_SHORT: u32 = 5;
 pub const NO_PAGE: u32 = 6;
 /// The options, or a request, have another size.
 pub const BAD_SIZE: u32 = 7;
-/// A reserved word of the options, or of a request, is not 0, or a flag of a request is unknown.
+/// A reserved word of the options, or of a request, is not 0, or a flag or the block size of a request is unknown.
 pub const BAD_OPTION: u32 = 8;
 /// The image is not 1 to 65,536 whole blocks.
 pub const BAD_IMAGE: u32 = 9;
@@ -75,6 +75,7 @@ pub fn code_of_refusal(why: Refusal) -> u32
         Refusal::NoQueue => 10,
         Refusal::Deleting => 11,
         Refusal::Bad(fault) => code_of_request_fault(fault),
+        Refusal::OtherBlocks => 35,
         Refusal::NoIdentifier => 13,
         Refusal::NoPages { .. } => 14,
         Refusal::Memory => 15,

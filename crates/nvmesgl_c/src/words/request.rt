@@ -3,7 +3,7 @@
 ghost use Rattle.std.specs.Prelude.{◌≡◌, ◌≤◌, IfOk};
 ghost use Rattle.nvmesgl_c.specs.Requests as requests;
 
-use io_commands::{Flags, Kind, Piece, Pieces, Request};
+use io_commands::{BlockSize, Flags, Kind, Piece, Pieces, Request};
 use std::alloc::{AllocError, Global};
 
 /// The most bytes that a command moves.
@@ -51,6 +51,7 @@ pub fn request_for(alloc: Global, kind: Kind, slba: u64, len: usize) -> Result<R
         kind,
         nsid: 1,
         flags: Flags::NONE,
+        block_size: BlockSize::Bytes512,
         slba,
         blocks: (len / 512) as u32,
         pieces,

@@ -5,7 +5,7 @@ use crate::worlds::desk::Desk;
 use crate::worlds::sets::carry;
 use block_image::Image;
 use entry_codec::Status;
-use io_commands::{Flags, Kind, Piece, Pieces, Request};
+use io_commands::{BlockSize, Flags, Kind, Piece, Pieces, Request};
 use page_ledger::Counts;
 use script_cli::run_steps;
 use std::alloc::{AllocError, Global};
@@ -48,6 +48,7 @@ fn largest(alloc: Global, kind: Kind) -> Result<Request, AllocError> {
         kind,
         nsid: 1,
         flags: Flags::NONE,
+        block_size: BlockSize::Bytes512,
         slba: 0,
         blocks: BLOCKS,
         pieces,

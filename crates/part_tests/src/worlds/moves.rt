@@ -9,7 +9,7 @@ use crate::worlds::requests::{BLOCKS, SHAPES, bytes, request};
 use crate::worlds::rings::{COMMANDS, ENTRIES, Rings, Stage};
 use crate::worlds::told::Told;
 use entry_codec::{ComEntry, Hints, Status};
-use io_commands::{Flags, Kind, Pieces, Request};
+use io_commands::{BlockSize, Flags, Kind, Pieces, Request};
 use std::alloc::{AllocError, Global};
 use step_core::{Bytes, Step};
 use test_support::Numbers;
@@ -49,6 +49,7 @@ fn without_data(alloc: Global, numbers: &mut Numbers) -> Request {
         kind,
         nsid: 1,
         flags: Flags::NONE,
+        block_size: BlockSize::Bytes512,
         slba: u64::from(numbers.below(BLOCKS)),
         blocks,
         pieces: Pieces::new(alloc),

@@ -1,6 +1,6 @@
 //! Requests of several shapes, and bytes for them.
 
-use io_commands::{Flags, Kind, Piece, Pieces, Request};
+use io_commands::{BlockSize, Flags, Kind, Piece, Pieces, Request};
 use std::alloc::{AllocError, Global};
 
 /// The blocks of the image.
@@ -69,6 +69,7 @@ pub(crate) fn request(
         kind,
         nsid: 1,
         flags: Flags::NONE,
+        block_size: BlockSize::Bytes512,
         slba: u64::from(slba),
         blocks: shape.blocks,
         pieces: Pieces::from_slice(alloc, shape.pieces)?,

@@ -9,7 +9,7 @@ use driver_threads::{
     Gate, Job, JobEnd, JobEndIn, JobEnds, JobIn, Ran, RunFault, Server, run_threads,
 };
 use entry_codec::Status;
-use io_commands::{Flags, Kind, Piece, Pieces, Request};
+use io_commands::{BlockSize, Flags, Kind, Piece, Pieces, Request};
 use page_ledger::Owner;
 use page_memory::PageNo;
 use std::alloc::{AllocError, Allocator, Global};
@@ -168,6 +168,7 @@ pub fn job<A: Allocator + Copy>(
             kind,
             nsid: 1,
             flags: Flags::NONE,
+            block_size: BlockSize::Bytes512,
             slba,
             blocks,
             pieces: pieces(alloc, blocks)?,

@@ -7,8 +7,8 @@ use crate::faults::forms::{Grammar, Slot, has_pieces, slots_of, slots_of_job};
 use crate::faults::words::{Place, word_from};
 use io_commands::Kind;
 use script_cli::{
-    FUA, LR, LineError, LineFault, NSID, VECTOR, Verb, Words, begins_comment, begins_option, piece,
-    words_of,
+    BLOCK_SIZE, FUA, LR, LineError, LineFault, NSID, VECTOR, Verb, Words, begins_comment,
+    begins_option, piece, words_of,
 };
 use std::alloc::{AllocError, Global};
 
@@ -100,6 +100,7 @@ fn is_good(alloc: Global, slot: Slot, words: &mut Words<'_>) -> Result<bool, All
         Slot::FirstBlock => words.number64().is_ok(),
         Slot::Blocks => words.number32().is_ok(),
         Slot::Namespace => words.namespace().is_ok(),
+        Slot::BlockSize => words.size().is_ok(),
         Slot::Bytes => was_read(words.bytes(alloc))?,
         Slot::EntryBytes => was_read(words.sixteen_bytes(alloc))?,
         Slot::Submitter(submitters) => words.number_below(submitters).is_ok(),
@@ -117,6 +118,7 @@ fn fault_of(slot: Slot) -> LineFault {
         | Slot::FirstBlock
         | Slot::Blocks
         | Slot::Namespace
+        | Slot::BlockSize
         | Slot::Vector
         | Slot::Submitter(_) => LineFault::BadNumber,
     }
@@ -253,6 +255,7 @@ fn request_after(alloc: Global, line: &[u8], at: usize, wanted: Wanted) -> Resul
 {
     let at = pieces_after(line, at)?;
     let at = option_after(alloc, line, at, NSID, Slot::Namespace)?;
+    let at = option_after(alloc, line, at, BLOCK_SIZE, Slot::BlockSize)?;
     let at = flag_after(line, at, FUA);
     let at = flag_after(line, at, LR);
     Ok(end_after(line, at, wanted)?)

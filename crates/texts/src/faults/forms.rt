@@ -32,6 +32,8 @@ pub enum Slot {
     Blocks,
     /// A namespace.
     Namespace,
+    /// The bytes of a block.
+    BlockSize,
     /// A vector.
     Vector,
     /// Bytes.
@@ -98,7 +100,7 @@ impl Slot {
             Slot::Kind => "KIND",
             Slot::FirstBlock => "SLBA",
             Slot::Blocks => "BLOCKS",
-            Slot::Namespace | Slot::Vector => "N",
+            Slot::Namespace | Slot::BlockSize | Slot::Vector => "N",
             Slot::Bytes | Slot::EntryBytes => "HEX",
             Slot::Submitter(_) => "S",
         }
@@ -114,6 +116,7 @@ impl Slot {
             Slot::FirstBlock => "the first block, 0 to 18446744073709551615",
             Slot::Blocks => "how many blocks, 0 to 4294967295",
             Slot::Namespace => "a namespace, 1 to 4294967295",
+            Slot::BlockSize => "512, 1024, 2048 or 4096",
             Slot::Vector => "a vector, 0 to 65535",
             Slot::Bytes => "bytes, of two hexadecimal digits each",
             Slot::EntryBytes => "16 bytes, of two hexadecimal digits each",

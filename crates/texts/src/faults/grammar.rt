@@ -33,7 +33,8 @@ A script of `nvmesgl threads` has one job on each line:
   SLOT    a slot of a completion queue
 
 After the pieces of `reserve` and `job` may come, in this order: `nsid N`, the namespace, where it
-is not 1; `fua`, for Force Unit Access; and `lr`, for Limited Retry.
+is not 1; `block_size N`, the bytes of a block, where it has not 512; `fua`, for Force Unit Access;
+and `lr`, for Limited Retry.
 
 After the queue of `create_cq` may come `vector N`, the vector of its interrupts; else the queue
 is polled.

@@ -22,7 +22,7 @@ const JOBS: [&str; 1] = ["job"];
 
 /// What is wrong with a word that follows those of a request.
 const BEHIND_PIECES: &str =
-    "this word is one too many: after the pieces may come 'nsid N', 'fua' and 'lr', each once and in this order.";
+    "this word is one too many: after the pieces may come 'nsid N', 'block_size N', 'fua' and 'lr', each once and in this order.";
 
 /// What is wrong with a word that follows those of `create_cq`.
 const BEHIND_QUEUE: &str = "this word is one too many: after Q may come 'vector N', once.";
@@ -77,6 +77,8 @@ fn put_bad_number(out: &mut String, word: &[u8], slot: Slot) -> Result<(), Alloc
         write!(out, "'{shown}' is no decimal number: {name} is ")?;
     } else if word.len() > MAX_DIGITS {
         return write!(out, "'{shown}' has more than {MAX_DIGITS} digits.");
+    } else if slot == Slot::BlockSize {
+        write!(out, "no block has {shown} bytes: {name} is ")?;
     } else if word.iter().all(|byte| *byte == b'0') {
         write!(out, "{shown} is too small: {name} is ")?;
     } else {

@@ -2,14 +2,14 @@
 
 ghost use Rattle.std.specs.Prelude.{◌≤◌, IfOk};
 
-use crate::explain::block_size::{BlockSize, MAX_BLOCK_BYTES};
 use crate::explain::dump::{Dump, FILE};
 use crate::explain::fault::{CaseFault, Wrong};
 use crate::explain::files::file_bytes;
 use crate::explain::key::Key;
 use crate::explain::lines::{Line, Stop, address_of, number_of, put_in};
-use crate::explain::namespace::{GivenBlock, Namespace};
+use crate::explain::namespace::{GivenBlock, MAX_BLOCK_BYTES, Namespace};
 use crate::sparse_memory::{ALL_PAGES, SparseMemory};
+use io_commands::BlockSize;
 use page_memory::PAGE_BYTES;
 use script_cli::{MAX_LINES, MAX_SCRIPT, begins_comment, split_line, words_of};
 use std::alloc::{AllocError, AllocGlobal, Global};

@@ -7,20 +7,20 @@ ghost use Rattle.controller_walk.specs.Walks.{course, direction_of, is_over, nee
 ghost use Rattle.entry_codec.specs.declared.submission.SubEntry.{SubEntry};
 ghost use Rattle.views.specs.Ending.{Ends, ends_with, list_of};
 ghost use Rattle.views.specs.Fetched.{bytes_fetched};
-ghost use Rattle.views.specs.Stored.{bytes_moved, field_fault, most_blocks, stored_of};
+ghost use Rattle.io_commands.specs.BlockSizes.{most_blocks};
+ghost use Rattle.views.specs.Stored.{bytes_moved, field_fault, stored_of};
 ghost use Rattle.views.specs.Taking.{AreOf, own};
 ghost use Rattle.io_commands.specs.declared.request.Kind.TheVariants.{Read};
 ghost use Rattle.io_commands.specs.Jobs.{kind_of_opcode, block_number as spec_block_number, direction_of_entry};
 ghost use Rattle.page_memory.specs.Memory.{Memory};
 ghost use Rattle.views.specs.Sparse.{byte_in};
 
-use crate::explain::block_size::BlockSize;
 use crate::explain::list::{Taken, Walked, walk_list};
 use crate::explain::namespace::{Namespace, checked, stored};
 use crate::sparse_memory::SparseMemory;
 use controller_walk::{Walk, WalkFault};
 use entry_codec::{Status, SubEntry};
-use io_commands::{Kind, block_number};
+use io_commands::{BlockSize, Kind, block_number};
 use std::alloc::{AllocError, Global};
 
 /// What became of a command.

@@ -9,7 +9,7 @@ ghost use Rattle.entry_codec.specs.declared.submission.SubEntry.{SubEntry};
 ghost use Rattle.io_commands.specs.Jobs.{block_number, first_block, io_fault, kind_of_opcode, need_of_entry, status_after};
 ghost use Rattle.sgl_descriptor.specs.declared.Direction.TheVariants.{Source};
 ghost use Rattle.views.specs.Stored.{bytes_moved, field_fault, status_by};
-ghost use Rattle.views.specs.declared.explain.block_size.BlockSize.TheVariants.{Bytes512};
+ghost use Rattle.io_commands.specs.declared.block_size.BlockSize.TheVariants.{Bytes512};
 
 /// A list whose bytes are fetched writes none of its descriptors, wherever they stand.
 pub fn fetched_lists_stand_apart()

@@ -4,12 +4,15 @@ ghost use Rattle.std.specs.Prelude.{◌≡◌, ◌+◌, ◌<◌, ◌≤◌, ◌+
 ghost use Rattle.std.specs.Option.{option_copied};
 ghost use Rattle.std.specs.Result.{result_err};
 ghost use Rattle.io_commands.specs.Jobs.{kind_of_opcode, first_block as spec_first_block, block_number as spec_block_number};
-ghost use Rattle.views.specs.Stored.{block_bytes, bytes_moved, bytes_of_block, field_fault, most_blocks, stored_of};
+ghost use Rattle.io_commands.specs.BlockSizes.{block_bytes, most_blocks};
+ghost use Rattle.views.specs.Stored.{bytes_moved, bytes_of_block, field_fault, stored_of};
 
-use crate::explain::block_size::{BlockSize, MAX_BLOCK_BYTES};
 use entry_codec::{Status, SubEntry};
-use io_commands::{Kind, block_number, first_block, kind_of};
+use io_commands::{BlockSize, Kind, block_number, first_block, kind_of};
 use std::alloc::{AllocError, Global};
+
+/// The most bytes that a block has.
+pub(crate) const MAX_BLOCK_BYTES: usize = 4_096;
 
 /// The bytes of a block that is given.
 #[derive(Drop)]

@@ -3,9 +3,8 @@
 ghost use Rattle.std.specs.Prelude.{◌≡◌, ◌≤◌, Some, false, length};
 ghost use Rattle.controller_walk.specs.Walks.{is_over, need_of};
 ghost use Rattle.io_commands.specs.Jobs.{block_number, kind_of_opcode};
-ghost use Rattle.views.specs.Stored.{most_blocks};
+ghost use Rattle.io_commands.specs.BlockSizes.{most_blocks};
 
-use crate::explain::block_size::BlockSize;
 use crate::explain::cause::put_cause;
 use crate::explain::command::walk_of;
 use crate::explain::list::Taken;
@@ -14,7 +13,7 @@ use crate::explain::rule::put_rule;
 use crate::sparse_memory::SparseMemory;
 use controller_walk::{Direction, Walk, WalkFault};
 use entry_codec::{Status, SubEntry};
-use io_commands::Kind;
+use io_commands::{BlockSize, Kind};
 use std::alloc::{AllocError, Global};
 
 /// What is refused.

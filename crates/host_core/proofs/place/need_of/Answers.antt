@@ -9,7 +9,7 @@ use Rattle.host_core.proofs.place.need_of.Goals as goal
 pub overflow_add-result : goal.overflow_add-result
 overflow_add-result g c =
     let request = c.args.request.now in
-    omega (arith, c.data_pages-data_pages.ensures, c.scattered_chain.ensures.few, needed_few (length request.pieces) c.args.segment, few_pieces request.kind request.blocks request.pieces c.requires.good, count_by-le-length is_data request.pieces)
+    omega (arith, c.data_pages-data_pages.ensures, c.scattered_chain.ensures.few, needed_few (length request.pieces) c.args.segment, few_pieces request.kind request.block_size request.blocks request.pieces c.requires.good, count_by-le-length is_data request.pieces)
 
 pub returns-in-Some : goal.returns-in-Some
 returns-in-Some g c =

@@ -27,3 +27,7 @@ returns-in_err-ticket-clause-carries_refused g c =
     passed_on c.from_residual-in_err-ticket.result _ c.in_err-ticket.field-0.0 c.from_residual-in_err-ticket.ensures.1
     (λ refuses jobs carries. carries_same g.D.Data.bytes g.D.Data.keeps g.L.LogBrand.opening flight.seat c.submitted.new.seat flight.ends.items flight.flying.items jobs (c.in_err-ticket.ensures.refused refuses) c.in_err-ticket.ensures.seat (c.in_err-ticket.ensures.known refuses)
     (c.in_ok-draft.ensures.carries jobs carries))
+
+pub returns-in_err-draft-clause-carries_refused : goal.returns-in_err-draft-clause-carries_refused
+returns-in_err-draft-clause-carries_refused g c =
+    passed_on c.from_residual.result _ c.in_err-draft.field-0.0 c.from_residual.ensures.1 c.in_err-draft.ensures.carries_refused

@@ -13,7 +13,7 @@ overflow_cast-result-2 g c =
       whole.chain_has_pages,
       needed_few (length (draft_parts d)) d.segment,
       joined_parts_few d.request.pieces (numbers_of d.data_pages),
-      few_pieces d.request.kind d.request.blocks d.request.pieces whole.good,
+      few_pieces d.request.kind d.request.block_size d.request.blocks d.request.pieces whole.good,
     )
 
 pub returns : goal.returns

@@ -1,30 +1,41 @@
-use Rattle.std.proofs.Common.{arith, ◌≡◌, ℕ, List, false, ap, sym, ◌∙◌, slice_get}
-use Rattle.machine_model.specs.Refusals.{no_io_queue, in_state, is_deleting}
-use Rattle.host_core.proofs.Granting.{in_state-is, no_io-is, refuses-no_identifier, refuses-too_few, none-left, next-left, granted, Asked}
+use Rattle.std.proofs.Common.{arith, ◌≡◌, ℕ, List, true, false, ap, sym, ◌∙◌, slice_get}
+use Rattle.machine_model.specs.Refusals.{no_io_queue, in_state, is_deleting, takes}
+use Rattle.host_core.proofs.Granting.{in_state-is, no_io-is, refuses-other_blocks, refuses-no_identifier, refuses-too_few, none-left, next-left, granted, Asked}
 use Rattle.host_core.{specs.{Commands.{state_at, passes, takes_no_io}, Parts.tables_of, Rows.Queue, Tables.{Tables, state_of}}, proofs.Granted.queue_there}
 use Rattle.host_core.proofs.tables.HostTables.check_reserve.Goals as goal
+
+pub returns-then-not-takes-clause-refused : goal.returns-then-not-takes-clause-refused
+returns-then-not-takes-clause-refused g c = λ pages w.
+    let t : Tables = tables_of c.args.self.now pages in
+    let q : ℕ = c.args.q in
+    let seen : c.host_state-state.result ≡ state_at t.queues q = c.host_state-state.ensures ∙ ap (λ (qs : List Queue). state_at qs q) c.deref.ensures.value in
+    let known : no_io_queue (state_of t) q ≡ false = no_io-is t q ∙ (ap (takes_no_io q) (sym seen) ∙ (sym c.takes_no_io.ensures ∙ c.if-takes_no_io.false)) in
+    let stays : in_state is_deleting (state_of t) q ≡ false = in_state-is is_deleting t q ∙ (ap (passes is_deleting) (sym seen) ∙ (sym c.is_deleting.ensures ∙ c.if-is_deleting.false)) in
+    refuses-other_blocks (state_of t) q c.args.request.now known stays (sym c.in-Ok.ensures) (sym c.if-not-takes.ensures)
 
 pub returns-in_default-clause-refused : goal.returns-in_default-clause-refused
 returns-in_default-clause-refused g c = λ pages w.
     let t : Tables = tables_of c.args.self.now pages in
     let q : ℕ = c.args.q in
     let seen : c.host_state-state.result ≡ state_at t.queues q = c.host_state-state.ensures ∙ ap (λ (qs : List Queue). state_at qs q) c.deref.ensures.value in
-    let takes : no_io_queue (state_of t) q ≡ false = no_io-is t q ∙ (ap (takes_no_io q) (sym seen) ∙ (sym c.takes_no_io.ensures ∙ c.if-takes_no_io.false)) in
+    let known : no_io_queue (state_of t) q ≡ false = no_io-is t q ∙ (ap (takes_no_io q) (sym seen) ∙ (sym c.takes_no_io.ensures ∙ c.if-takes_no_io.false)) in
     let stays : in_state is_deleting (state_of t) q ≡ false = in_state-is is_deleting t q ∙ (ap (passes is_deleting) (sym seen) ∙ (sym c.is_deleting.ensures ∙ c.if-is_deleting.false)) in
-    let there = queue_there t q takes in
+    let fits : takes t.block_sizes c.args.request.now.block_size ≡ true = sym c.if-not-takes.ensures in
+    let there = queue_there t q known in
     let next = c.in_default.ensures there.0 (ap (λ (qs : List Queue). slice_get qs q) c.deref-2.ensures.value ∙ there.1) in
-    refuses-no_identifier (state_of t) q c.args.request.now takes stays (sym c.in-Ok.ensures) (none-left t w q there.0 there.1 (sym next))
+    refuses-no_identifier (state_of t) q c.args.request.now known stays (sym c.in-Ok.ensures) fits (none-left t w q there.0 there.1 (sym next))
 
 pub returns-in-Err-pages_wanted-clause-refused : goal.returns-in-Err-pages_wanted-clause-refused
 returns-in-Err-pages_wanted-clause-refused g c = λ pages w.
     let t : Tables = tables_of c.args.self.now pages in
     let q : ℕ = c.args.q in
     let seen : c.host_state-state.result ≡ state_at t.queues q = c.host_state-state.ensures ∙ ap (λ (qs : List Queue). state_at qs q) c.deref.ensures.value in
-    let takes : no_io_queue (state_of t) q ≡ false = no_io-is t q ∙ (ap (takes_no_io q) (sym seen) ∙ (sym c.takes_no_io.ensures ∙ c.if-takes_no_io.false)) in
+    let known : no_io_queue (state_of t) q ≡ false = no_io-is t q ∙ (ap (takes_no_io q) (sym seen) ∙ (sym c.takes_no_io.ensures ∙ c.if-takes_no_io.false)) in
     let stays : in_state is_deleting (state_of t) q ≡ false = in_state-is is_deleting t q ∙ (ap (passes is_deleting) (sym seen) ∙ (sym c.is_deleting.ensures ∙ c.if-is_deleting.false)) in
-    let there = queue_there t q takes in
+    let fits : takes t.block_sizes c.args.request.now.block_size ≡ true = sym c.if-not-takes.ensures in
+    let there = queue_there t q known in
     let next = c.in-Some.ensures there.0 (ap (λ (qs : List Queue). slice_get qs q) c.deref-2.ensures.value ∙ there.1) in
-    refuses-too_few (state_of t) q c.args.request.now c.in-Err-pages_wanted.field-0.need c.in-Err-pages_wanted.field-0.free takes stays (sym c.in-Ok.ensures)
+    refuses-too_few (state_of t) q c.args.request.now c.in-Err-pages_wanted.field-0.need c.in-Err-pages_wanted.field-0.free known stays (sym c.in-Ok.ensures) fits
     (next-left t w q c.in-Some.cid there.0 there.1 (sym next)) c.in-Err-pages_wanted.ensures.need c.in-Err-pages_wanted.ensures.free c.in-Err-pages_wanted.ensures.too_few
 
 pub returns-in-Ok-pages_wanted-clause-granted : goal.returns-in-Ok-pages_wanted-clause-granted
@@ -32,11 +43,12 @@ returns-in-Ok-pages_wanted-clause-granted g c = λ pages w.
     let t : Tables = tables_of c.args.self.now pages in
     let q : ℕ = c.args.q in
     let seen : c.host_state-state.result ≡ state_at t.queues q = c.host_state-state.ensures ∙ ap (λ (qs : List Queue). state_at qs q) c.deref.ensures.value in
-    let takes : no_io_queue (state_of t) q ≡ false = no_io-is t q ∙ (ap (takes_no_io q) (sym seen) ∙ (sym c.takes_no_io.ensures ∙ c.if-takes_no_io.false)) in
+    let known : no_io_queue (state_of t) q ≡ false = no_io-is t q ∙ (ap (takes_no_io q) (sym seen) ∙ (sym c.takes_no_io.ensures ∙ c.if-takes_no_io.false)) in
     let stays : in_state is_deleting (state_of t) q ≡ false = in_state-is is_deleting t q ∙ (ap (passes is_deleting) (sym seen) ∙ (sym c.is_deleting.ensures ∙ c.if-is_deleting.false)) in
-    let there = queue_there t q takes in
+    let fits : takes t.block_sizes c.args.request.now.block_size ≡ true = sym c.if-not-takes.ensures in
+    let there = queue_there t q known in
     let next = c.in-Some.ensures there.0 (ap (λ (qs : List Queue). slice_get qs q) c.deref-2.ensures.value ∙ there.1) in
-    let asked : Asked t q c.args.request.now = record { queue = there.0; at = there.1; takes = takes; stays = stays; good = sym c.in-Ok.ensures } in
+    let asked : Asked t q c.args.request.now = record { queue = there.0; at = there.1; known = known; stays = stays; good = sym c.in-Ok.ensures; fits = fits } in
     granted t q c.args.request.now c.in-Some.cid c.in-Ok-pages_wanted.data_pages c.in-Ok-pages_wanted.chain_pages w asked (sym next)
     c.in-Ok-pages_wanted.ensures.data_pages c.in-Ok-pages_wanted.ensures.chain_pages c.in-Ok-pages_wanted.ensures.enough
 

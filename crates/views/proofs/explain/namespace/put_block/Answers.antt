@@ -1,7 +1,8 @@
 use Rattle.std.proofs.Common.{◌≡◌, ◌∙◌, ◌++◌, List, ℕ, Result, Ok, Err, ap, replicate, take, if◌then◌else◌}
 use Rattle.std.proofs.lemmas.List.{take-replicate}
 use Rattle.std.specs.Result.{is_ok, OnOk}
-use Rattle.views.specs.Stored.{block_bytes, bytes_of_block, bytes_by, zero_block}
+use Rattle.io_commands.specs.BlockSizes.{block_bytes}
+use Rattle.views.specs.Stored.{bytes_of_block, bytes_by, zero_block}
 use Rattle.views.proofs.explain.namespace.put_block.Goals as goal
 
 where_ok : {A E : Type 0} (r : Result A E) (new old more more' : List ℕ) → more ≡ more' → new ≡ (if is_ok r then old ++ more else old) → OnOk r (new ≡ old ++ more')

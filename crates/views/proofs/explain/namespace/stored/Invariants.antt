@@ -1,5 +1,6 @@
 use Rattle.std.proofs.Common.{◌≡◌, ◌*◌, length}
-use Rattle.views.specs.Stored.{block_bytes, blocks_from}
+use Rattle.io_commands.specs.BlockSizes.{block_bytes}
+use Rattle.views.specs.Stored.{blocks_from}
 use Rattle.views.proofs.explain.namespace.stored.Given as goal
 
 abbrev pub invariant-loop-k : goal.invariant-loop-k

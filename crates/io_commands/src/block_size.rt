@@ -1,13 +1,10 @@
 //! How many bytes a block has.
 
 ghost use Rattle.std.specs.Prelude.{◌≡◌, ◌≢◌, ◌≤◌, ◌*◌, IfSome, IfNone};
-ghost use Rattle.views.specs.Stored.{block_bytes, most_blocks as spec_most_blocks};
-ghost use Rattle.views.specs.declared.explain.block_size.BlockSize.{BlockSize};
+ghost use Rattle.io_commands.specs.BlockSizes.{block_bytes, most_blocks as spec_most_blocks, size_of};
+ghost use Rattle.io_commands.specs.declared.block_size.BlockSize.{BlockSize};
 
-/// The most bytes that a block has.
-pub(crate) const MAX_BLOCK_BYTES: usize = 4_096;
-
-/// How many bytes a block has: a namespace's LBA data size.
+/// How many bytes a block has: a namespace's LBA data size (NVM Command Set Specification 1.0, LBA Format Data Structure, LBADS 9 to 12).
 #[derive(Clone, Copy, Debug, PartialEq, Eq)]
 pub enum BlockSize {
     /// 512, as the modelled controller's.
@@ -23,6 +20,7 @@ pub enum BlockSize {
 impl BlockSize {
     /// The size of so many bytes; none where no block has as many.
     pub fn of(bytes: u64) -> Option<BlockSize>
+        ensures size { result ≡ size_of bytes }
         ensures some { IfSome result (λ size. block_bytes size ≡ bytes) }
         ensures none { IfNone result ((size : BlockSize) → block_bytes size ≢ bytes) }
     {
@@ -48,9 +46,10 @@ impl BlockSize {
         }
     }
 
-    /// How many blocks a command may move: those of 1 MiB.
+    /// How many blocks a command may have: those of 1 MiB.
     pub fn most_blocks(self) -> u32
-        ensures { result ≡ spec_most_blocks self }
+        ensures most { result ≡ spec_most_blocks self }
+        ensures few { result ≤ 2048 }
     {
         match self {
             BlockSize::Bytes512 => 2_048,
@@ -60,8 +59,8 @@ impl BlockSize {
         }
     }
 
-    /// How many bytes so many blocks have, which a command may move.
-    pub(crate) fn bytes_of(self, blocks: u32) -> u32
+    /// How many bytes so many blocks have, which a command may have.
+    pub fn bytes_of(self, blocks: u32) -> u32
         requires { blocks ≤ spec_most_blocks self }
         ensures bytes { result ≡ block_bytes self * blocks }
         ensures least { blocks ≤ result }
