@@ -11,6 +11,7 @@ returns c =
       differs = refl;
       no_queue = refl;
       bad = refl;
+      other_blocks = refl;
       too_few = refl;
       too_many_bytes = refl;
     }
