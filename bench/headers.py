@@ -1,10 +1,13 @@
 """The part `headers` of bench/peers: what the shell traces of arbitrary commands, and where libnvme's headers find the same fields in the same bytes.
 
+The first byte of each field that `admin_commands::identify` reads is compared with the offset of its member in libnvme's structs.
+
 An entry lies in memory as `struct nvme_passthru_cmd` does up to its time limit: the address of that struct's data is the first word of SGL1, and the length of its
 metadata the word behind. A completion's status is taken apart by `nvme_status_code_type` and `nvme_status_code`.
 """
 
 import os
+import re
 import subprocess
 import tempfile
 
@@ -36,6 +39,51 @@ int main(void) {
 """
 
 
+ROOT = os.path.dirname(os.path.dirname(os.path.abspath(__file__)))
+
+# The members of libnvme's structs that functions of `admin_commands::identify` read.
+MEMBERS = {
+    "controller": ("nvme_id_ctrl", {"serial_number": "sn", "model_number": "mn", "firmware_revision": "fr", "most_pages": "mdts", "namespaces": "nn",
+                                    "optional_commands": "oncs", "has_volatile_cache": "vwc", "list_support": "sgls"}),
+    "namespace": ("nvme_id_ns", {"blocks": "nsze", "last_format": "nlbaf", "format_number": "flbas", "format_of": "lbaf"}),
+}
+
+
+def compiled(text, lines=""):
+    """What a C program over libnvme's headers prints, fed with lines; none where there are no headers."""
+    with tempfile.TemporaryDirectory() as folder:
+        source, program = os.path.join(folder, "reads.c"), os.path.join(folder, "reads")
+        with open(source, "w", encoding="utf-8") as file:
+            file.write(text)
+        if subprocess.run(["cc", "-Wall", source, "-o", program], capture_output=True).returncode != 0:
+            return None
+        return subprocess.run([program], input=lines, capture_output=True, text=True, check=True).stdout.splitlines()
+
+
+def first_byte(source, function):
+    """The first byte that a function reads, as its source says it."""
+    body = re.search(rf"fn {function}\(.*?\n}}\n", source, re.DOTALL).group(0)
+    return int(re.search(r"bytes\[(\d+)|let at = (\d+)", body).group(1) or re.search(r"let at = (\d+)", body).group(1))
+
+
+def identified():
+    """How many fields of Identify begin where libnvme's structs have them, and how many there are; none where there are no headers."""
+    alike = whole = 0
+    for module, (struct, members) in MEMBERS.items():
+        with open(os.path.join(ROOT, "crates", "admin_commands", "src", "identify", module + ".rt"), encoding="utf-8") as file:
+            source = file.read()
+        offsets = "".join(f'    printf("%zu\\n", offsetof(struct {struct}, {member}));\n' for member in members.values())
+        lines = compiled(f"#include <libnvme.h>\n#include <stddef.h>\n#include <stdio.h>\nint main(void) {{\n{offsets}    return 0;\n}}\n")
+        if lines is None:
+            return None
+        for (function, member), offset in zip(members.items(), lines):
+            good = first_byte(source, function) == int(offset)
+            whole, alike = whole + 1, alike + good
+            if not good:
+                print(f"headers: identify: {function} does not begin where {member} does, at {offset}")
+    return alike, whole
+
+
 def of_entry(told, words):
     """The fields of an entry that libnvme's struct has, under the names of the trace."""
     opcode, flags, cid, nsid, metadata, address, length, low, high, count = words
@@ -50,15 +98,8 @@ def of_entry(told, words):
 
 def read(rows):
     """What a C program over libnvme's headers reads in each row; none where there are no headers."""
-    with tempfile.TemporaryDirectory() as folder:
-        source, program = os.path.join(folder, "reads.c"), os.path.join(folder, "reads")
-        with open(source, "w", encoding="utf-8") as file:
-            file.write(READS)
-        if subprocess.run(["cc", "-Wall", source, "-o", program], capture_output=True).returncode != 0:
-            return None
-        text = "".join(f"{kind[0]} {raw.hex()}\n" for kind, raw, _ in rows)
-        ran = subprocess.run([program], input=text, capture_output=True, text=True, check=True)
-    return [[int(word, 16) for word in line.split()] for line in ran.stdout.splitlines()]
+    lines = compiled(READS, "".join(f"{kind[0]} {raw.hex()}\n" for kind, raw, _ in rows))
+    return None if lines is None else [[int(word, 16) for word in line.split()] for line in lines]
 
 
 def headers(program, count=1000):
@@ -78,6 +119,7 @@ def headers(program, count=1000):
         whole[kind], alike[kind] = whole.get(kind, 0) + 1, alike.get(kind, 0) + good
         if not good:
             print(f"headers: {kind}: {told} is told, {found} is read")
+    alike["field of Identify"], whole["field of Identify"] = identified()
     for kind in whole:
         print(f"headers: {kind}: {alike[kind]} of {whole[kind]} as libnvme's headers have them")
     return len(lines) == len(rows) and alike == whole

@@ -182,7 +182,13 @@ uint32_t nvmehost_reserve_tagged(nvmehost *, uint16_t q, uint32_t kind, uint64_t
                                  nvmesgl_answer *) NVMESGL_CALL(1, 9);
 /* Reserves a command as nvmehost_reserve_tagged does, of any namespace, with blocks of any size and with any flags. Refused: BAD_SIZE, BAD_OPTION, and then as nvmehost_reserve_tagged. */
 uint32_t nvmehost_reserve_request(nvmehost *, uint16_t q, const nvmesgl_request *, const nvmesgl_piece *pieces, size_t piece_count, uint64_t tag, nvmesgl_answer *) NVMESGL_CALL(1, 3, 7);
-/* Fills the draft of a Write or a Compare with the bytes, and zeros after them. Refused: NO_VALUE, NOT_A_SOURCE, WRONG_LENGTH. */
+/* Reserves an admin command of the caller's own, of queue 0, with a tag: a draft as any other, whose page, if it has one, the entry names as PRP1. It is filled where data is taken from the
+ * page, built, submitted, rung and reaped (NVMESGL_REAP_ADMIN_DONE, with dw0), collected (which tells its tag), gathered where data comes, and released, all with q = 0; a reset ends it as it ends an I/O command.
+ * Not taken: what the host sends by calls of its own, and what hands a device memory for longer than the command lasts (Create and Delete I/O Queue, Abort, Doorbell Buffer Config, and
+ * Set Features of the Host Memory Buffer). Refused: BAD_SIZE, BAD_OPTION, NO_KIND for an opcode above 255 or another use of a page, CROSSES_PAGE for more bytes than a page has,
+ * LENGTH_MISMATCH for a page without bytes or bytes without a page, HOSTS_OWN, NO_IDENTIFIER, NO_PAGES, MEMORY. */
+uint32_t nvmehost_reserve_admin(nvmehost *, const nvmesgl_admin *, uint64_t tag, nvmesgl_answer *) NVMESGL_CALL(1, 2, 4);
+/* Fills the draft of a Write or a Compare, or of an admin command whose data is taken, with the bytes, and zeros after them. Refused: NO_VALUE, NOT_A_SOURCE, WRONG_LENGTH. */
 uint32_t nvmehost_fill(nvmehost *, uint16_t q, uint16_t cid, const uint8_t *bytes, size_t byte_count, nvmesgl_answer *) NVMESGL_CALL(1, 6);
 /* Lays the draft's chain. Refused: NO_VALUE, MEMORY. */
 uint32_t nvmehost_build(nvmehost *, uint16_t q, uint16_t cid, nvmesgl_answer *) NVMESGL_CALL(1, 4);
@@ -220,7 +226,7 @@ uint32_t nvmehost_ring(nvmehost *, uint16_t q, nvmehost_doorbell *, nvmesgl_answ
  * value for the completion queue's head doorbell is told.
  * Refused: NO_QUEUE. */
 uint32_t nvmehost_reap(nvmehost *, uint16_t q, nvmehost_doorbell *, nvmesgl_answer *) NVMESGL_CALL(1, 3, 4);
-/* Takes completions, each as nvmehost_reap would, as many as the buffer holds, and collects the command that each ends, as nvmehost_collect would. They stand in the front of the buffer, and
+/* Takes completions, each as nvmehost_reap would, as many as the buffer holds, and collects the command that each ends, as nvmehost_collect would, but on queue 0. They stand in the front of the buffer, and
  * how many there are is told, and the value for the head doorbell after the last. answer.state is NVMESGL_REAP_EMPTY where there is no other; else the buffer is full. A command whose entry
  * has a code (MEMORY) has ended and is not collected: collect it. Over memory that a device writes by itself it is called with room for one completion, once nvmehost_ready
  * says that it is there (rule 6 of docs/C.md): it reaps until there is no other. Refused: NO_QUEUE. */

@@ -33,9 +33,9 @@ extern "C" {
 /* Version --------------------------------------------------------------------------------------------------------- */
 
 /* The version of this header, and of the library that is linked. Versions 0.N may differ in any call and struct. */
-#define NVMESGL_VERSION "0.7.0"
+#define NVMESGL_VERSION "0.8.0"
 #define NVMESGL_VERSION_MAJOR 0
-#define NVMESGL_VERSION_MINOR 7
+#define NVMESGL_VERSION_MINOR 8
 #define NVMESGL_VERSION_PATCH 0
 const char *nvmesgl_version(void);
 
@@ -134,6 +134,8 @@ enum nvmesgl_code {
     NVMESGL_NOT_A_SOURCE = 45,
     /* There are more bytes than the data pieces take. */
     NVMESGL_WRONG_LENGTH = 46,
+    /* The host keeps this admin command to itself. */
+    NVMESGL_HOSTS_OWN = 47,
     /* Of nvmectl.h: the doorbell does not hear the value. */
     NVMESGL_BAD_DOORBELL = 50,
     /* The pool has more than 65,536 pages. */
@@ -213,6 +215,30 @@ typedef struct nvmesgl_request {
 } nvmesgl_request;
 
 #define NVMESGL_REQUEST {sizeof(nvmesgl_request), NVMESGL_READ, 1, 0, 0, 0, 512, {0}}
+
+/* What an admin command does with a page of the host's. */
+enum nvmesgl_page_use {
+    NVMESGL_WITHOUT_PAGE = 0, /* it has none */
+    NVMESGL_PAGE_WRITTEN = 1, /* data comes to it */
+    NVMESGL_PAGE_READ = 2     /* data is taken from it */
+};
+
+/* What an admin command of the caller's own asks for (NVM Express Base Specification 2.0, "Admin Command Set"), with no page or one. Zero all of it and set its size first. The reserved word
+ * is 0; a later version may give it a meaning. */
+typedef struct nvmesgl_admin {
+    uint32_t size;   /* sizeof(nvmesgl_admin) */
+    uint32_t opcode; /* 0 to 255 */
+    uint32_t nsid;   /* the namespace; 0 where none is named */
+    uint32_t page;   /* enum nvmesgl_page_use */
+    uint32_t bytes;  /* how many bytes of data the page has, from its start: 1 to 4,096, and 0 without a page */
+    uint32_t cdw10;
+    uint32_t cdw11;
+    uint32_t cdw12;
+    uint32_t cdw13;
+    uint32_t cdw14;
+    uint32_t cdw15;
+    uint32_t reserved;
+} nvmesgl_admin;
 
 /* Bytes of the caller's: len bytes from base on, which may be null where there are none. It is laid out as POSIX's struct iovec. */
 typedef struct nvmesgl_iovec {

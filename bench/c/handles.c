@@ -74,6 +74,7 @@ static void machine_calls(nvmesgl *h) {
 static void host_calls(nvmehost *h) {
     nvmehost_options options = NVMEHOST_OPTIONS;
     nvmesgl_request request = {0}; /* of no size: that comes later */
+    nvmesgl_admin admin = {0};
     nvmesgl_piece piece = {0, 512, NVMESGL_PIECE};
     nvmehost_doorbell bell;
     nvmehost_pages pages;
@@ -93,6 +94,7 @@ static void host_calls(nvmehost *h) {
     STRANGE(nvmehost_poll(h, 1, &ended, 1, &count, &bell, &answer));
     STRANGE(nvmehost_reserve_tagged(h, 1, NVMESGL_READ, 0, 1, &piece, 1, 7, &answer));
     STRANGE(nvmehost_reserve_request(h, 1, &request, &piece, 1, 7, &answer));
+    STRANGE(nvmehost_reserve_admin(h, &admin, 7, &answer));
     STRANGE(nvmehost_submit_iov(h, 1, NVMESGL_READ, 0, &buffer, 1, 7, &answer));
     STRANGE(nvmehost_gather_iov(h, 1, 0, &buffer, 1, &answer));
     STRANGE(nvmehost_create_cq_vector(h, 1, 3, &answer));

@@ -282,6 +282,47 @@ static void asks_without_data(const nvmehost_options *options) {
     }
 }
 
+/* An admin command of the caller's own goes through queue 0 as any command: its entry has what was asked for and names its page, which the device may write, and its bytes are gathered. */
+static void asks_of_the_admin_queue(const nvmehost_options *options) {
+    nvmehost own = NVMEHOST_CLOSED;
+    nvmehost_queue queue;
+    nvmehost_doorbell bell;
+    nvmehost_run run;
+    size_t runs;
+    uint8_t page[PAGE], back[PAGE];
+    uint32_t entry[16], completion[4] = {77, 0, 1, 1u << 16};
+    nvmesgl_admin asked = {sizeof asked, 0x06, 3, NVMESGL_PAGE_WRITTEN, PAGE, 1, 2, 3, 4, 5, 6, 0}, wrong = asked;
+    static const uint32_t codes[] = {NVMESGL_BAD_SIZE, NVMESGL_BAD_OPTION, NVMESGL_NO_KIND, NVMESGL_NO_KIND, NVMESGL_CROSSES_PAGE, NVMESGL_LENGTH_MISMATCH, NVMESGL_HOSTS_OWN};
+    if (nvmehost_open(&own, options, &answer) != NVMESGL_DONE || nvmehost_look(&own, 0, &queue) != NVMESGL_DONE) fail("open", 0);
+    wrong.size = 44, wrong.reserved = 1, wrong.opcode = 256, wrong.page = 3, wrong.bytes = 4097;
+    for (unsigned i = 0; i < 7; i++) {
+        if (nvmehost_reserve_admin(&own, &wrong, 0, &answer) != codes[i]) fail("an admin command with a fault", i);
+        if (i == 0) wrong.size = sizeof wrong;
+        else if (i == 1) wrong.reserved = 0;
+        else if (i == 2) wrong.opcode = 0x01;
+        else if (i == 3) wrong.page = NVMESGL_PAGE_READ;
+        else if (i == 4) wrong.bytes = 0;
+        else if (i == 5) wrong.bytes = PAGE;
+    }
+    if (nvmehost_reserve_admin(&own, &asked, 9, &answer) != NVMESGL_DONE || answer.data_pages != 1 || answer.chain_pages != 0) fail("an admin command", 0);
+    uint16_t cid = answer.cid;
+    if (nvmehost_fill(&own, 0, cid, page, 1, &answer) != NVMESGL_NOT_A_SOURCE) fail("a page that is brought", 0);
+    if (nvmehost_build(&own, 0, cid, &answer) != NVMESGL_DONE || nvmehost_submit(&own, 0, cid, &answer) != NVMESGL_DONE) fail("an admin submission", 0);
+    if (nvmehost_runs(&own, 0, cid, &run, 1, &runs) != NVMESGL_DONE || runs != 1 || run.count != 1 || run.right != NVMEHOST_WRITE) fail("the page of an admin command", (unsigned)runs);
+    if (nvmehost_read(&own, (uint64_t)queue.submission_page * PAGE + 64u * queue.submission_tail, (uint8_t *)entry, sizeof entry) != NVMESGL_DONE) fail("an entry", 0);
+    uint32_t wanted[16] = {[0] = 0x06 | (uint32_t)cid << 16, [1] = 3, [6] = (uint32_t)(run.first * PAGE), [10] = 1, [11] = 2, [12] = 3, [13] = 4, [14] = 5, [15] = 6};
+    if (memcmp(entry, wanted, sizeof entry) != 0) fail("the entry of an admin command", 0);
+    memset(page, 0x5A, sizeof page);
+    completion[3] |= cid;
+    if (nvmehost_write(&own, (uint64_t)run.first * PAGE, page, PAGE) != NVMESGL_DONE) fail("a page", 0);
+    if (nvmehost_write(&own, (uint64_t)queue.completion_page * PAGE, (const uint8_t *)completion, sizeof completion) != NVMESGL_DONE) fail("a completion", 0);
+    if (nvmehost_reap(&own, 0, &bell, &answer) != NVMESGL_DONE || answer.state != NVMESGL_REAP_ADMIN_DONE || answer.cid != cid || answer.dw0 != 77) fail("its reap", answer.state);
+    if (nvmehost_collect(&own, 0, cid, &answer) != NVMESGL_DONE || answer.sct != 0 || answer.sc != 0 || answer.tag != 9) fail("its collection", 0);
+    if (nvmehost_gather(&own, 0, cid, back, sizeof back, &answer) != NVMESGL_DONE || memcmp(back, page, sizeof page) != 0) fail("its bytes", 0);
+    if (nvmehost_release(&own, 0, cid, &answer) != NVMESGL_DONE) fail("its release", 0);
+    nvmehost_close(&own);
+}
+
 /* What a completion hints at is told by the collection of its command, and by a poll. */
 static void tells_hints(const nvmehost_options *options) {
     nvmehost own = NVMEHOST_CLOSED;
@@ -324,6 +365,7 @@ int main(int argc, char **argv) {
     asks(&options);
     asks_in_other_blocks(&options);
     asks_without_data(&options);
+    asks_of_the_admin_queue(&options);
     tells_hints(&options);
     uint32_t code = nvmehost_open(&host, &options, &answer);
     if (code != NVMESGL_DONE) fail("open", code);

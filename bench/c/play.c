@@ -26,7 +26,7 @@ static const char *const names[] = {
     [NVMESGL_SLOT_OUT] = "SlotOut", [NVMESGL_FULL] = "Full", [NVMESGL_NO_JOB] = "NoJob", [NVMESGL_NOTHING] = "Nothing",
     [NVMESGL_WALKING] = "Walking", [NVMESGL_WAITS] = "Waits", [NVMESGL_TOO_MANY_PIECES] = "Bad TooManyPieces",
     [NVMESGL_EMPTY_PIECE] = "Bad EmptyPiece", [NVMESGL_CROSSES_PAGE] = "Bad CrossesPage", [NVMESGL_BAD_COUNT] = "Bad BadCount",
-    [NVMESGL_LENGTH_MISMATCH] = "Bad LengthMismatch", [NVMESGL_NOT_A_SOURCE] = "NotASource", [NVMESGL_WRONG_LENGTH] = "WrongLength",
+    [NVMESGL_LENGTH_MISMATCH] = "Bad LengthMismatch", [NVMESGL_HOSTS_OWN] = "Bad HostsOwn", [NVMESGL_NOT_A_SOURCE] = "NotASource", [NVMESGL_WRONG_LENGTH] = "WrongLength",
 };
 
 static void touched(void) {

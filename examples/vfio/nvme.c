@@ -51,8 +51,7 @@ static uint8_t *page_at(const struct nvme *nvme, uint32_t page) {
     return (uint8_t *)nvme->memory.at + (size_t)NVME_PAGE * page;
 }
 
-/* Where the device finds the page for Identify. */
-static uint64_t identify_at(const struct nvme *nvme) {
+static uint64_t pool_bytes(const struct nvme *nvme) {
     return (uint64_t)NVME_PAGE * nvme->options.pages;
 }
 
@@ -148,7 +147,7 @@ bool nvme_reap(struct nvme *nvme, uint16_t q, nvmesgl_answer *answer) {
     nvmehost_doorbell bell;
     nvme_done(nvmehost_reap(&nvme->host, q, &bell, answer), "reap");
     nvmehost_write_doorbell(nvme->vfio.bar, nvme->stride, bell);
-    if (answer->state == NVMESGL_REAP_DONE) take_back_command(nvme, q, answer->cid);
+    if (answer->state == NVMESGL_REAP_DONE || answer->state == NVMESGL_REAP_ADMIN_DONE) take_back_command(nvme, q, answer->cid);
     return true;
 }
 
@@ -177,24 +176,29 @@ static nvmesgl_answer admin(struct nvme *nvme, const char *failure) {
     return answer;
 }
 
-/* Does an admin command that the host does not know. It goes in the place of a Create or a Delete I/O CQ of a queue that the device never has: its entry is overwritten. */
-static nvmesgl_answer carry(struct nvme *nvme, uint32_t opcode, uint32_t nsid, uint32_t cdw10, uint32_t cdw11, const char *failure) {
+uint32_t nvme_admin(struct nvme *nvme, const nvmesgl_admin *command, uint8_t *data, const char *failure) {
+    nvmehost *host = &nvme->host;
     nvmesgl_answer answer;
-    uint16_t carrier = (uint16_t)(nvme->options.queues + 1);
-    if (nvme->carrier_made) nvme_done(nvmehost_delete_cq(&nvme->host, carrier, &answer), "delete_cq");
-    else nvme_done(nvmehost_create_cq(&nvme->host, carrier, &answer), "create_cq");
-    nvme->carrier_made = !nvme->carrier_made;
-    uint32_t entry[16];
-    uint64_t data = identify_at(nvme);
-    nvme_read_entry(nvme, 0, entry);
-    uint32_t command[16] = {[0] = opcode | (entry[0] & 0xffff0000), [1] = nsid, [6] = (uint32_t)data, [7] = (uint32_t)(data >> 32), [10] = cdw10, [11] = cdw11};
-    nvme_write_entry(nvme, 0, command);
-    return admin(nvme, failure);
+    nvme_done(nvmehost_reserve_admin(host, command, 0, &answer), "reserve_admin");
+    uint16_t cid = answer.cid;
+    nvme_done(nvmehost_build(host, 0, cid, &answer), "build");
+    nvme_done(nvmehost_submit(host, 0, cid, &answer), "submit");
+    grant_command(nvme, 0, cid);
+    uint32_t told = admin(nvme, failure).dw0;
+    nvme_done(nvmehost_collect(host, 0, cid, &answer), "collect");
+    if (data != NULL) nvme_done(nvmehost_gather(host, 0, cid, data, command->bytes, &answer), "gather");
+    nvme_done(nvmehost_release(host, 0, cid, &answer), "release");
+    return told;
+}
+
+static void identify(struct nvme *nvme, uint32_t nsid, uint32_t what, uint8_t data[NVME_PAGE], const char *failure) {
+    nvmesgl_admin command = {.size = sizeof command, .opcode = OPCODE_IDENTIFY, .nsid = nsid, .page = NVMESGL_PAGE_WRITTEN, .bytes = NVME_PAGE, .cdw10 = what};
+    nvme_admin(nvme, &command, data, failure);
 }
 
 static void identify_controller(struct nvme *nvme) {
-    carry(nvme, OPCODE_IDENTIFY, 0, IDENTIFY_CONTROLLER, 0, "Identify of the controller fails");
-    const uint8_t *data = nvme->identify;
+    uint8_t data[NVME_PAGE];
+    identify(nvme, 0, IDENTIFY_CONTROLLER, data, "Identify of the controller fails");
     memcpy(nvme->model, data + 24, 40);
     memcpy(nvme->firmware, data + 64, 8);
     uint8_t mdts = data[77];
@@ -205,8 +209,8 @@ static void identify_controller(struct nvme *nvme) {
 }
 
 static void identify_namespace(struct nvme *nvme) {
-    carry(nvme, OPCODE_IDENTIFY, nvme->options.nsid, IDENTIFY_NAMESPACE, 0, "Identify of the namespace fails");
-    const uint8_t *data = nvme->identify;
+    uint8_t data[NVME_PAGE];
+    identify(nvme, nvme->options.nsid, IDENTIFY_NAMESPACE, data, "Identify of the namespace fails");
     const uint8_t *format = data + 128 + 4 * (data[26] & 15);
     memcpy(&nvme->blocks, data, sizeof nvme->blocks);
     need(nvme->blocks != 0, "there is no such namespace");
@@ -228,8 +232,9 @@ static void make_queue(struct nvme *nvme, uint16_t q) {
 
 static void make_queues(struct nvme *nvme) {
     uint32_t last = nvme->options.queues - 1;
-    nvmesgl_answer answer = carry(nvme, OPCODE_SET_FEATURES, 0, FEATURE_QUEUES, last << 16 | last, "Set Features, Number of Queues, fails");
-    need((answer.dw0 & 0xffff) >= last && answer.dw0 >> 16 >= last, "the controller gives too few queues");
+    nvmesgl_admin command = {.size = sizeof command, .opcode = OPCODE_SET_FEATURES, .cdw10 = FEATURE_QUEUES, .cdw11 = last << 16 | last};
+    uint32_t given = nvme_admin(nvme, &command, NULL, "Set Features, Number of Queues, fails");
+    need((given & 0xffff) >= last && given >> 16 >= last, "the controller gives too few queues");
     for (uint16_t q = 1; q <= nvme->options.queues; q++) make_queue(nvme, q);
 }
 
@@ -238,7 +243,6 @@ static void make_queues(struct nvme *nvme) {
 static void enable(struct nvme *nvme) {
     nvmehost_queue queue = nvme_look(nvme, 0);
     uint32_t last = nvme->options.entries - 1;
-    nvme->carrier_made = false;
     grant_submissions(nvme, 0);
     grant_completions(nvme, 0);
     set32(nvme, AQA, last << 16 | last);
@@ -252,7 +256,7 @@ static void enable(struct nvme *nvme) {
 static uint64_t disable(struct nvme *nvme) {
     set32(nvme, CC, 0);
     wait_ready(nvme, false);
-    return nvme->options.open ? identify_at(nvme) : vfio_unmap(&nvme->vfio, 0, identify_at(nvme));
+    return nvme->options.open ? pool_bytes(nvme) : vfio_unmap(&nvme->vfio, 0, pool_bytes(nvme));
 }
 
 static void open_registers(struct nvme *nvme) {
@@ -265,17 +269,15 @@ static void open_registers(struct nvme *nvme) {
 
 static void open_host(struct nvme *nvme) {
     const struct nvme_options *o = &nvme->options;
-    nvmehost_options options = {sizeof options, o->pages, o->queues + 1, o->entries, o->segment, {0}};
+    nvmehost_options options = {sizeof options, o->pages, o->queues, o->entries, o->segment, {0}};
     nvmesgl_answer answer;
-    size_t pool = (size_t)NVME_PAGE * o->pages;
-    void *at = mmap(NULL, pool + NVME_PAGE, PROT_READ | PROT_WRITE, MAP_PRIVATE | MAP_ANONYMOUS, -1, 0);
+    size_t pool = pool_bytes(nvme);
+    void *at = mmap(NULL, pool, PROT_READ | PROT_WRITE, MAP_PRIVATE | MAP_ANONYMOUS, -1, 0);
     need_system(at != MAP_FAILED, "there is no memory for the pool");
     nvme->memory = (nvmehost_memory){.at = at, .pages = o->pages};
-    nvme->identify = (uint8_t *)at + pool;
     if (o->mirror) nvme_done(nvmehost_open(&nvme->host, &options, &answer), "open");
     else nvme_done(nvmehost_open_at(&nvme->host, &options, &nvme->memory, &answer), "open_at");
     nvme_done(nvmehost_reset(&nvme->host, &answer), "reset");
-    vfio_map(&nvme->vfio, identify_at(nvme), nvme->identify, NVME_PAGE, VFIO_WRITES);
     if (o->open) vfio_map(&nvme->vfio, 0, at, pool, VFIO_READS | VFIO_WRITES);
 }
 
@@ -295,7 +297,7 @@ void nvme_start(struct nvme *nvme, const struct nvme_options *options) {
 
 void nvme_stop(struct nvme *nvme) {
     disable(nvme);
-    vfio_unmap(&nvme->vfio, 0, identify_at(nvme) + NVME_PAGE);
+    vfio_unmap(&nvme->vfio, 0, pool_bytes(nvme));
     if (nvme->options.mirror) nvmehost_close(&nvme->host);
     else nvmehost_close_at(&nvme->host, &nvme->memory);
 }

@@ -30,10 +30,8 @@ struct nvme {
     struct vfio vfio;
     nvmehost host;
     nvmehost_memory memory; /* the device finds page p at memory.at + 4,096 p, */
-    uint8_t *identify;      /* and after the pool a page for Identify */
     unsigned stride;        /* of the doorbells: CAP.DSTRD */
     double patience;        /* seconds that the controller may take to start and to stop */
-    bool carrier_made;
     unsigned long admin_commands;
     nvmehost_run runs[NVME_MOST_RUNS];
 
@@ -62,6 +60,10 @@ uint64_t nvme_halt(struct nvme *);
 
 /* Starts the controller again, and makes its queues. */
 void nvme_resume(struct nvme *);
+
+/* Does an admin command of the caller's own while the I/O queues rest, and puts the bytes of its page, if any come, at data. What it tells is its double word; where it fails, the
+ * program ends with this sentence. */
+uint32_t nvme_admin(struct nvme *, const nvmesgl_admin *, uint8_t *data, const char *failure);
 
 /* Reserves a command of blocks of the namespace. Its code. */
 uint32_t nvme_reserve(struct nvme *, uint16_t q, uint32_t kind, uint64_t slba, uint32_t blocks, const nvmesgl_piece *pieces, size_t count, uint16_t *cid);

@@ -137,6 +137,18 @@ class CRequest(Structure):
     ]
 
 
+class CAdmin(Structure):
+    _fields_ = [
+        ("size", c_uint32),
+        ("opcode", c_uint32),
+        ("nsid", c_uint32),
+        ("page", c_uint32),
+        ("bytes", c_uint32),
+        ("words", c_uint32 * 6),
+        ("reserved", c_uint32),
+    ]
+
+
 class Answer(Structure):
     _fields_ = [
         ("state", c_uint32),

@@ -27,10 +27,10 @@ from ctypes import POINTER, Structure, byref, c_bool, c_size_t, c_uint8, c_uint1
 from typing import Any, Dict, Iterable, List, NamedTuple, Optional
 
 from ._driver import Driver, lent_pieces, request_of
-from ._library import COMMAND_CALLS, HINTS, OPTION_WORDS, PAGE_COUNTS, RESERVED, U16, U32, U64, Answer, CPiece, CRequest, Handle, IoVec, PageOwner, all_lent, declare, fits, lent
-from .words import Code, Collected, Hints, Kind, Piece, Refused, Reserved, State, Status
+from ._library import COMMAND_CALLS, HINTS, OPTION_WORDS, PAGE_COUNTS, RESERVED, U16, U32, U64, Answer, CAdmin, CPiece, CRequest, Handle, IoVec, PageOwner, all_lent, declare, fits, lent
+from .words import Code, Collected, Hints, Kind, PageUse, Piece, Refused, Reserved, State, Status
 
-__all__ = ["Collected", "Counts", "Doorbell", "Ended", "Host", "PAGE_BYTES", "Place", "Polled", "Queue", "QueueState", "Reaped", "Right", "Rings", "Run"]
+__all__ = ["Collected", "Counts", "Doorbell", "Ended", "Host", "PAGE_BYTES", "PageUse", "Place", "Polled", "Queue", "QueueState", "Reaped", "Right", "Rings", "Run"]
 
 PAGE_BYTES = 4096
 
@@ -207,6 +207,7 @@ _CALLS: Dict[str, List[Any]] = {
     "reap": [_HANDLE, U16, _BELL, _ANSWER],
     "poll": [_HANDLE, U16, POINTER(CEnded), c_size_t, POINTER(c_size_t), _BELL, _ANSWER],
     "reserve_request": [_HANDLE, U16, POINTER(CRequest), POINTER(CPiece), c_size_t, U64, _ANSWER],
+    "reserve_admin": [_HANDLE, POINTER(CAdmin), U64, _ANSWER],
     "submit_iov": [_HANDLE, U16, U32, U64, POINTER(IoVec), c_size_t, U64, _ANSWER],
     "gather_iov": [_HANDLE, U16, U16, POINTER(IoVec), c_size_t, _ANSWER],
     "reset": [_HANDLE, _ANSWER],
@@ -304,6 +305,18 @@ class Host(Driver):
         has ended."""
         request = request_of(kind, slba, blocks, nsid, block_bytes, force_unit_access, limited_retry)
         return self._reserved("reserve_request", q, byref(request), *lent_pieces(pieces), tag)
+
+    def reserve_admin(
+        self, opcode: int, words: Iterable[int] = (), *, nsid: int = 0, page: PageUse = PageUse.NOTHING, count: int = 0, tag: int = 0
+    ) -> Reserved:
+        """Reserves an admin command of your own, of queue 0, as a draft. `words` are Command Dwords 10 to 15, as far as they are not 0; `count` is how many
+        bytes of data its page has. It is built, submitted, reaped (with `dw0`), collected and released as any command, on queue 0; filled
+        where data is taken from its page, and gathered where data comes."""
+        given = [fits(word, 32) for word in words]
+        if len(given) > 6:
+            raise ValueError("an admin command has six words, Command Dwords 10 to 15")
+        admin = CAdmin(ctypes.sizeof(CAdmin), fits(opcode, 32), fits(nsid, 32), fits(page, 32), fits(count, 32), (c_uint32 * 6)(*given))
+        return self._reserved("reserve_admin", byref(admin), tag)
 
     # A command of several buffers
 

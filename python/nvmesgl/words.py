@@ -56,6 +56,7 @@ class Code(enum.IntEnum):
     LENGTH_MISMATCH = 44
     NOT_A_SOURCE = 45
     WRONG_LENGTH = 46
+    HOSTS_OWN = 47
     BAD_DOORBELL = 50
     POOL_TOO_LONG = 51
     NO_BLOCKS = 52
@@ -64,6 +65,14 @@ class Code(enum.IntEnum):
     NO_PIECE = 55
     BAD_PIECE = 56
     NO_HANDLE = 57
+
+
+class PageUse(enum.IntEnum):
+    """What an admin command does with a page of the host's."""
+
+    NOTHING = 0
+    IN = 1
+    OUT = 2
 
 
 class Kind(enum.IntEnum):

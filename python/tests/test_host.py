@@ -8,7 +8,7 @@ import struct
 import pytest
 
 from nvmesgl import Code, Hints, Kind, OwnerKind, Piece, State
-from nvmesgl.host import PAGE_BYTES, Doorbell, Host, Place, QueueState, Right, Rings, Run
+from nvmesgl.host import PAGE_BYTES, Doorbell, Host, PageUse, Place, QueueState, Right, Rings, Run
 from refusals import refused
 
 
@@ -128,6 +128,28 @@ def test_a_namespace_and_flags():
         refused(Code.NO_KIND, host.reserve, 1, 6, 0, 1, [Piece(0, 512)])
         with pytest.raises(ctypes.ArgumentError):
             host.reserve(1, Kind.READ, 0, 1, [Piece(0, 512)], nsid=-1)
+
+
+def test_admin():
+    """Identify through queue 0, and what the host keeps to itself."""
+    with Host(pages=32, entries=8) as host:
+        rings, queue = host.rings(0), host.queue(0)
+        refused(Code.HOSTS_OWN, host.reserve_admin, 0x00, [1])
+        refused(Code.LENGTH_MISMATCH, host.reserve_admin, 0x06, [1], page=PageUse.IN)
+        cid = host.reserve_admin(0x06, [1], page=PageUse.IN, count=4096).cid
+        host.build(0, cid)
+        host.submit(0, cid)
+        (run,) = host.runs(0, cid)
+        assert len(run.pages) == 1 and run.right == Right.WRITE
+        page = run.pages[0]
+        entry = struct.unpack("<16I", host.read(rings.submission + 64 * queue.submission_tail, 64))
+        assert entry[0] == 0x06 | cid << 16 and entry[6] == 4096 * page and entry[10:] == (1, 0, 0, 0, 0, 0)
+        host.write(4096 * page, b"ab" * 2048)
+        host.write(rings.completion, struct.pack("<IIHHHH", 5, 0, 1, 0, cid, 1))
+        reaped = host.reap(0)
+        assert (reaped.cid, reaped.status, reaped.dw0) == (cid, (0, 0), 5)
+        assert host.collect(0, cid) == (0, 0) and host.gather(0, cid) == b"ab" * 2048
+        host.release(0, cid)
 
 
 def test_other_blocks():

@@ -1,3 +1,4 @@
 pub mod Entries
 pub mod Verdicts
 pub mod Creations
+pub mod Identify

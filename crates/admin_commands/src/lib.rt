@@ -3,10 +3,11 @@
 //! Submission Queue command", "Delete I/O Completion Queue command").
 //!
 //! The host makes an [`entry`]. The controller shows what it knows of the queue and the command that an entry names, and
-//! [`decide`] tells what it does at the fetch. What then waits for what is the controller's own matter. Nothing here takes
-//! memory.
+//! [`decide`] tells what it does at the fetch. What then waits for what is the controller's own matter. [`identify`] reads what a
+//! device says of itself. Nothing here takes memory.
 #![tactic(auto)]
 
+pub mod identify;
 pub mod laws;
 
 ghost use Rattle.std.specs.Prelude.{◌≡◌, ◌+◌, ◌*◌};

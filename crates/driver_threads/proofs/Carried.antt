@@ -1,11 +1,11 @@
 -- What a submitter carries: a job is reserved and submitted, and the oldest in flight ends; then how all of them went.
 use Rattle.machine_model.specs.Events as events
-use Rattle.std.proofs.Common.{◌≡◌, ℕ, Option, Some, None, Result, Ok, Err, IfOk, IfErr, refl, ap, sym, subst, ◌∙◌, ◌+◌, ◌-◌, List, [], ◌∷◌, ◌++◌, length, map, arith, ◌<◌, ◌≤◌, OnOk, OnErr, IsErrAnd}
+use Rattle.std.proofs.Common.{◌≡◌, ℕ, Bool, true, false, if◌then◌else◌, Option, Some, None, Result, Ok, Err, IfOk, IfErr, refl, ap, sym, subst, ◌∙◌, ◌+◌, ◌-◌, List, [], ◌∷◌, ◌++◌, length, map, arith, ◌<◌, ◌≤◌, OnOk, OnErr, IsErrAnd}
 use Rattle.std.proofs.lemmas.List.{append-nil, append_assoc, length-append, map-append}
 use Rattle.std.specs.{List.AllZip}
 use Rattle.entry_codec.specs.declared.status.Status.{Status}
-use Rattle.io_commands.specs.{Asked.Request, Drafts.DraftContents, Values.{TicketContents}}
-use Rattle.io_commands.specs.declared.request.{Kind.{Kind, TheVariants.{Read, Write, Compare, WriteZeroes, Verify, Flush}}}
+use Rattle.io_commands.specs.{Asked.Request, DataBytes.PagesOut, Drafts.DraftContents, Requests.brings_data, Values.{TicketContents}}
+use Rattle.io_commands.specs.declared.request.Kind.{Kind}
 use Rattle.machine_model.specs.{State.State, Step.IsReserved}
 use Rattle.driver_book.specs.{Calls.{Does, receipt, settled, status_at}, Entries.asked_of, History.accepted, State.{SeatContents}, declared.report.{Asked.Asked, Receipt.Receipt}}
 use Rattle.driver_book.proofs.Latest.{same_beginning, stands_on}
@@ -13,7 +13,7 @@ use Rattle.std.specs.Prelude.{slice_get}
 use mathlib.Core.List.{IsPrefix}
 use Rattle.driver_threads.proofs.UnderWay.{await_length, await_push, host_answers, none_is, none_open, settled_oldest, status_is}
 use Rattle.driver_threads.specs.{Ends.{Agree, AwaitEach, FlyingOf, status_of, statuses_of}, Sharing.{Made, Submitted}, Values.{EndOf, JobOf}}
-use Rattle.driver_threads.specs.Jobs.{AllWentBy, AreSubmitted, BytesOf, IsEnded, IsSubmitted, KeepsOf, RefusesJob, WentBy, prepared, with_bytes_of}
+use Rattle.driver_threads.specs.Jobs.{AllWentBy, AreSubmitted, BytesOf, IsEnded, IsSubmitted, KeepsOf, RefusesJob, WentBy, padded, prepared, with_bytes_of}
 use Rattle.driver_threads.specs.JobSteps.{Carries, CarriesOn, GivesUp, HoldsOfEach, data_of, number_of}
 use Rattle.driver_threads.specs.declared.jobs.{JobEnd.TheVariants.{Done, Refused as JobEndRefused}, JobRefusal.JobRefusal}
 
@@ -26,29 +26,19 @@ reserved_as_asked opening q request d made =
 
 -- The draft
 
+-- whether its pages have the job's bytes or are as they came
+same_but_pages : (came : Bool) (pages : PagesOut) (d : DraftContents) → (let d' : DraftContents = if came then d else record d { data_pages = pages } in (d'.q ≡ d.q) × (d'.cid ≡ d.cid) × (d'.request ≡ d.request))
+same_but_pages true pages d = (refl, refl, refl)
+same_but_pages false pages d = (refl, refl, refl)
+
 same_queue : (kind : Kind) (bytes : List ℕ) (d : DraftContents) → (with_bytes_of kind bytes d).q ≡ d.q
-same_queue Read bytes d = refl
-same_queue Write bytes d = refl
-same_queue Compare bytes d = refl
-same_queue WriteZeroes bytes d = refl
-same_queue Verify bytes d = refl
-same_queue Flush bytes d = refl
+same_queue kind bytes d = (same_but_pages (brings_data kind) (padded d.request bytes d.data_pages) d).0
 
 same_identifier : (kind : Kind) (bytes : List ℕ) (d : DraftContents) → (with_bytes_of kind bytes d).cid ≡ d.cid
-same_identifier Read bytes d = refl
-same_identifier Write bytes d = refl
-same_identifier Compare bytes d = refl
-same_identifier WriteZeroes bytes d = refl
-same_identifier Verify bytes d = refl
-same_identifier Flush bytes d = refl
+same_identifier kind bytes d = (same_but_pages (brings_data kind) (padded d.request bytes d.data_pages) d).1
 
 same_request : (kind : Kind) (bytes : List ℕ) (d : DraftContents) → (with_bytes_of kind bytes d).request ≡ d.request
-same_request Read bytes d = refl
-same_request Write bytes d = refl
-same_request Compare bytes d = refl
-same_request WriteZeroes bytes d = refl
-same_request Verify bytes d = refl
-same_request Flush bytes d = refl
+same_request kind bytes d = (same_but_pages (brings_data kind) (padded d.request bytes d.data_pages) d).2
 
 -- How jobs went, and one more
 

@@ -1,6 +1,6 @@
 -- What a submitter does for its jobs: which steps some books of its opening made for each, with which receipt, and how it ended.
-use Rattle.std.specs.Prelude.{◌≡◌, ◌≢◌, ◌⊎◌, ◌<◌, ◌-◌, ℕ, Some, None, List, [], ◌∷◌, ◌++◌, length, replicate, slice_get, sum_by}
-use Rattle.io_commands.specs.{Asked.Request, Drafts.{DraftContents, built}, DataBytes.{PagesOut, data_length, filled}, Least.least_pages, Values.{FinishedContents, gathered_from}}
+use Rattle.std.specs.Prelude.{◌≡◌, ◌≢◌, ◌⊎◌, ◌<◌, ◌-◌, ℕ, Some, None, List, [], ◌∷◌, ◌++◌, length, replicate, slice_get, sum_by, if◌then◌else◌}
+use Rattle.io_commands.specs.{Asked.Request, Drafts.{DraftContents, built}, DataBytes.{PagesOut, data_length, filled}, Least.least_pages, Requests.brings_data, Values.{FinishedContents, gathered_from}}
 use Rattle.io_commands.specs.declared.request.Kind.{Kind, TheVariants.Read}
 use Rattle.machine_model.specs.{Claims.counts_of, Refusals.refusal_of, State.State}
 use Rattle.driver_book.specs.{Calls.{Does, status_at}, Entries.asked_of, History.{accepted, last_place}, State.{BookContents, IsBookOf, SeatContents}, declared.report.Receipt.Receipt}
@@ -16,10 +16,9 @@ use Rattle.machine_model.specs.declared.words.Refusal.TheVariants as refusal
 abbrev pub padded : Request → List ℕ → PagesOut → PagesOut
 padded r bytes pages = filled r.pieces pages (bytes ++ replicate (sum_by data_length r.pieces - length bytes) 0)
 
--- a Read's pages are as they came; another command's have the job's bytes
+-- the pages of a command that brings data, as a Read, are as they came; another command's have the job's bytes
 abbrev pub with_bytes_of : Kind → List ℕ → DraftContents → DraftContents
-with_bytes_of Read bytes d = d
-with_bytes_of kind bytes d = record d { data_pages = padded d.request bytes d.data_pages }
+with_bytes_of kind bytes d = if brings_data kind then d else record d { data_pages = padded d.request bytes d.data_pages }
 
 -- the draft as it is submitted
 abbrev pub prepared : List ℕ → DraftContents → DraftContents

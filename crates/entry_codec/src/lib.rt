@@ -8,6 +8,7 @@
 
 pub mod admin_opcode;
 pub mod completion;
+pub mod feature;
 pub mod hints;
 pub mod io_opcode;
 pub mod status;

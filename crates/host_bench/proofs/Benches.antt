@@ -31,7 +31,7 @@ use Rattle.entry_codec.specs.declared.{hints.Hints.Hints, status.Status.Status}
 use Rattle.io_commands.specs.{Asked.Request, Drafts.{DraftContents, built}, Values.{FinishedContents, TicketContents, gathered_from}}
 use Rattle.slot_table.proofs.Rows.{option_is}
 use Rattle.page_memory.proofs.Lists.{any_found}
-use Rattle.machine_model.specs.declared.words.BlockSizes.TheVariants.{Any}
+use Rattle.machine_model.specs.declared.words.Peer.TheVariants.{Device}
 
 -- What a reset leaves of a host alone, and what is of the host and not of its pages.
 
@@ -41,10 +41,10 @@ reset_step v pages = (tt, (refl, tt), refl)
 
 module _ {A : Type 0} where
   pub bench_kept : (v : HostView) (pages pages' : Pages) (values : TableOf (Option (CommandValue A))) → IsBench (alone v pages) values → IsBench (alone v pages') values
-  bench_kept v pages pages' values b = record { queues = b.queues; places = b.places; inside = b.inside; distinct = b.distinct; held = b.held }
+  bench_kept v pages pages' values b = record { queues = b.queues; first = b.first; places = b.places; inside = b.inside; distinct = b.distinct; held = b.held }
 
   behind_reset : (s : State) (values : TableOf (Option (CommandValue A))) → IsBench (after_reset s) values → IsBench (reset_alone s) values
-  behind_reset s values b = record { queues = b.queues; places = b.places; inside = b.inside; distinct = b.distinct; held = b.held }
+  behind_reset s values b = record { queues = b.queues; first = b.first; places = b.places; inside = b.inside; distinct = b.distinct; held = b.held }
 
   pub resets : (v v' : HostView) (pages pages' : Pages) (values : TableOf (Option (CommandValue A))) → IsBench (alone v pages) values → v' ≡ host_reset v pages → pages' ≡ pages_reset v pages
       → (table_with (alone v' pages') values ≡ record (table_with (alone v pages) values) { world = reset_alone (alone v pages) }) × IsBench (alone v' pages') values
@@ -55,7 +55,7 @@ module _ {A : Type 0} where
             (behind_reset (alone v pages) values (goes_on (alone v pages) events.Reset events.Accepted (after_reset (alone v pages)) values (reset_step v pages) (λ q cid. refl) b)),
       )
 
-  pub opens_kept : (c : Config) (v : HostView) (pages : Pages) (values : TableOf (Option (CommandValue A))) → v ≡ opened_view c Any → pages ≡ opened_pages c → values ≡ record { queues = c.queues + 1; places = c.entries - 1; rows = [] }
+  pub opens_kept : (c : Config) (v : HostView) (pages : Pages) (values : TableOf (Option (CommandValue A))) → v ≡ opened_view c Device → pages ≡ opened_pages c → values ≡ record { queues = c.queues + 1; places = c.entries - 1; rows = [] }
       → IsBench (alone v pages) values
   opens_kept c v pages values host memory is = subst (λ (s : State). IsBench s values) (sym (ap₂ alone host memory)) (opens_tied (opened_alone c) c values (length-queues_from 0 c.entries (c.queues + 1)) refl is)
 

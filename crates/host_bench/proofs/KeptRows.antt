@@ -1,7 +1,7 @@
 -- Rows of a table, the values of a kind that stand in them, and what ties them to the host.
 use Rattle.machine_model.specs.Events as events
 use Rattle.host_bench.specs.declared.values.CommandValue.TheVariants as value
-use Rattle.std.proofs.Common.{◌≡◌, inl, inr, ℕ, ◌<◌, ◌==◌, Bool, true, false, Option, Some, None, List, [], ◌∷◌, ◌++◌, find, refl, ap, sym, ◌∙◌, subst, eqb-true, ◌+◌, ◌-◌, ◌&&◌, length, IfNone, IfSome, ap₂, arith}
+use Rattle.std.proofs.Common.{◌≡◌, inl, inr, ℕ, ◌<◌, ◌==◌, Bool, true, false, Option, Some, None, List, [], ◌∷◌, ◌++◌, find, refl, ap, sym, ◌∙◌, subst, eqb-true, ◌+◌, ◌-◌, ◌&&◌, ◌||◌, ◌⊎◌, not, if◌then◌else◌, length, IfNone, IfSome, ap₂, arith}
 use Rattle.std.proofs.lemmas.{Bool.{true≢false, and_parts, cond_both, cases_Bool, Decides.nat_tests}, Option.slice_get_within}
 use Rattle.std.specs.{List.{AllByRecursion, cons_option}, Option.option_and_then}
 use Rattle.slot_table.proofs.{Rows.{value_at-none, without-none}, Walks.none_stands}
@@ -12,9 +12,9 @@ use Rattle.host_core.specs.Outstanding.{IsOutstanding}
 use Rattle.host_core.specs.Firsts.{without_first, with_first}
 use Rattle.host_core.specs.declared.config.Config.{Config}
 use Rattle.host_bench.specs.declared.values.CommandValue.{CommandValue}
-use Rattle.io_commands.specs.{Asked.Request, Drafts.DraftContents, Values.FinishedContents}
+use Rattle.io_commands.specs.{Asked.Request, Drafts.DraftContents, Requests.is_admin, Values.FinishedContents}
 use Rattle.machine_model.{proofs.{Moves.{drafted_record, live_queue}, Steps.unrefused}, specs.{Events.Event, Image.is_draft}}
-use Rattle.machine_model.specs.{Script.{is_finished, is_ticket}, State.{State, Record}, Step.{Step, IsReserved}}
+use Rattle.machine_model.specs.{Refusals.{in_service, in_state, takes_admin}, Script.{is_finished, is_ticket}, State.{State, Record}, Step.{Step, IsReserved}}
 use Rattle.slot_table.proofs.Rows.{option_is}
 use Rattle.page_memory.proofs.Lists.{some_is, all-append, all-all, found_any}
 
@@ -205,11 +205,20 @@ module _ {V X : Type 0} (pick : V → Option X) where
 
 -- The queue of a reservation is there
 
-queue_there : (s new : State) (q : ℕ) (request : Request) (d : DraftContents) → Step s (events.Reserve q request) (events.Reserved d) new → q < length s.host.queues
-queue_there s new q request d step =
+-- an admin command is on queue 0, and another on a queue in service
+queue_of_kind : (admin takes first out : Bool) → (if admin then not (takes && first) else first || out) ≡ false → (first ≡ true) ⊎ ((first || out) ≡ false)
+queue_of_kind true true true out h = inl refl
+queue_of_kind true true false out h = absurd (true≢false h)
+queue_of_kind true false first out h = absurd (true≢false h)
+queue_of_kind false takes first out h = inr h
+
+queue_there : (s new : State) (q : ℕ) (request : Request) (d : DraftContents) → 0 < length s.host.queues → Step s (events.Reserve q request) (events.Reserved d) new → q < length s.host.queues
+queue_there s new q request d some step =
     let fails = unrefused s (events.Reserve q request) (reserved_ok s new q request d step).0 in
-    let x = live_queue s q fails.0 fails.1.0 in
-    slice_get_within s.host.queues q x.0 x.1.there
+    elim (queue_of_kind (is_admin request.kind) (takes_admin s.host.peer) (q == 0) (not (in_state in_service s q)) fails.0) [
+      | inl zero ↦ omega (arith, eqb-true q 0 zero, some)
+      | inr serves ↦ let x = live_queue s q serves fails.1.0 in slice_get_within s.host.queues q x.0 x.1.there
+    ]
 
 -- Names
 
@@ -295,6 +304,7 @@ module _ {A : Type 0} where
       let limits = limits_stay s e reply new step in
       record {
         queues = b.queues ∙ sym limits.queues;
+        first = b.first;
         places = b.places ∙ ap (λ (n : ℕ). n - 1) (sym limits.entries);
         inside = b.inside;
         distinct = b.distinct;
@@ -307,6 +317,7 @@ module _ {A : Type 0} where
   renewed s old q cid v w b there queue identifier =
       record {
         queues = b.queues;
+        first = b.first;
         places = b.places;
         inside = inside_with old.queues old.places old.rows q cid (Some w) b.inside;
         distinct = distinct_with old.rows q cid (Some w) b.distinct;
@@ -327,6 +338,7 @@ module _ {A : Type 0} where
       let row : Row (Option (CommandValue A)) = record { q = q; cid = cid; value = Some w } in
       record {
         queues = b.queues;
+        first = b.first;
         places = b.places;
         inside = inside_more old.queues old.places (without old.rows q cid) row (inside_without old.queues old.places old.rows q cid b.inside) at.0 at.1;
         distinct = distinct_more (without old.rows q cid) row (distinct_without old.rows q cid b.distinct) (none_stands (without old.rows q cid) q cid (gone old.rows q cid b.distinct));
@@ -347,6 +359,7 @@ module _ {A : Type 0} where
       let limits = limits_stay s e reply new step in
       record {
         queues = b.queues ∙ sym limits.queues;
+        first = b.first;
         places = b.places ∙ ap (λ (n : ℕ). n - 1) (sym limits.entries);
         inside = inside_without old.queues old.places old.rows q cid b.inside;
         distinct = distinct_without old.rows q cid b.distinct;
@@ -363,7 +376,7 @@ module _ {A : Type 0} where
       → IsPlace values q d.cid × (value_at values.rows q d.cid ≡ None)
   place_free s new q request d values step b = (
     record {
-      queue = subst (λ (n : ℕ). q < n) (sym b.queues) (queue_there s new q request d step);
+      queue = subst (λ (n : ℕ). q < n) (sym b.queues) (queue_there s new q request d (subst (λ (n : ℕ). 0 < n) b.queues b.first) step);
       identifier = subst (λ (n : ℕ). d.cid < n) (sym b.places) (reserved_ok s new q request d step).1.identifier.in_range;
     },
     free (value_at values.rows q d.cid) refl,
@@ -388,6 +401,7 @@ module _ {A : Type 0} where
       let queue : d.q ≡ q = (reserved_ok s new q request d step).1.queue in
       record {
         queues = on.queues;
+        first = on.first;
         places = on.places;
         inside = inside_more values.queues values.places values.rows row b.inside free.0.queue free.0.identifier;
         distinct = distinct_more values.rows row b.distinct (none_stands values.rows q d.cid free.1);
@@ -405,4 +419,4 @@ module _ {A : Type 0} where
 
   pub opens_tied : (s : State) (c : Config) (values : TableOf (Option (CommandValue A))) → length s.host.queues ≡ c.queues + 1 → s.entries ≡ c.entries → values ≡ record { queues = c.queues + 1; places = c.entries - 1; rows = [] } → IsBench s values
   opens_tied s c values many long is =
-      subst (IsBench s) (sym is) (record { queues = sym many; places = ap (λ (n : ℕ). n - 1) (sym long); inside = tt; distinct = tt; held = tt })
+      subst (IsBench s) (sym is) (record { queues = sym many; first = omega arith; places = ap (λ (n : ℕ). n - 1) (sym long); inside = tt; distinct = tt; held = tt })

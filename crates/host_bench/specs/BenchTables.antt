@@ -12,7 +12,7 @@ use Rattle.host_core.specs.declared.config.Config.{Config}
 use Rattle.host_bench.specs.declared.bench_tables.BenchTables.{BenchTables}
 use Rattle.machine_model.specs.declared.words.Refusal.TheVariants as refusal
 use Rattle.host_bench.specs.declared.call.Reply.TheVariants as reply
-use Rattle.machine_model.specs.declared.words.BlockSizes.TheVariants.{Any}
+use Rattle.machine_model.specs.declared.words.Peer.TheVariants.{Device}
 
 -- the machine that a host is over its pages, with no controller
 abbrev pub state_of : {A : Type 0} → BenchTables A → State
@@ -23,7 +23,7 @@ table_of kept = table_with (state_of kept) kept.values
 
 -- that of a host as it opens
 abbrev pub opened_alone : Config → State
-opened_alone c = alone (opened_view c Any) (opened_pages c)
+opened_alone c = alone (opened_view c Device) (opened_pages c)
 
 -- what is kept between calls: the pages are the host's, and the values are those of its commands
 pub record IsKept {A : Type 0} (kept : BenchTables A) : Type 0 where

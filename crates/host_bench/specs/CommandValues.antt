@@ -1,6 +1,6 @@
 -- The values of outstanding commands, by queue and identifier.
 use Rattle.std.specs.List.{AllByRecursion}
-use Rattle.std.specs.Prelude.{◌≡◌, ◌-◌, ℕ, None, Some, Option, List, length, filter_map, Result, Ok, Err}
+use Rattle.std.specs.Prelude.{◌≡◌, ◌-◌, ◌<◌, ℕ, None, Some, Option, List, length, filter_map, Result, Ok, Err}
 use Rattle.io_commands.specs.{Drafts.DraftContents, Values.{FinishedContents, TicketContents}}
 use Rattle.machine_model.specs.{Script.Table, State.{State, Record}}
 use Rattle.slot_table.specs.{Rows.{Row, IsDistinct, value_at, with_value}, Table.{TableOf, AreInside}}
@@ -71,9 +71,10 @@ pub record IsHeld {A : Type 0} (records : List Record) (row : Row (Option (Comma
   pub identifier : identifier_of value ≡ row.cid
   pub outstanding : IsOutstanding row.q row.cid records
 
--- the values of a bench: one at most of each command that is outstanding, and a place for each that may be
+-- the values of a bench, which has queue 0: one at most of each command that is outstanding, and a place for each that may be
 pub record IsBench {A : Type 0} (s : State) (values : TableOf (Option (CommandValue A))) : Type 0 where
   pub queues : values.queues ≡ length s.host.queues
+  pub first : 0 < values.queues
   pub places : values.places ≡ s.entries - 1
   pub inside : AreInside values.queues values.places values.rows
   pub distinct : IsDistinct values.rows

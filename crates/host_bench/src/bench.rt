@@ -19,7 +19,7 @@ use crate::bench_tables::BenchTables;
 use crate::call::{CallIn, ReplyIn};
 use crate::pool::{read, write};
 use host_core::{Config, Host};
-use machine_model::words::{BlockSizes, HostState, OpenRefusal};
+use machine_model::words::{HostState, OpenRefusal, Peer};
 use page_ledger::{Counts, Owner};
 use page_memory::{PageNo, Unreadable};
 use queue_pair::HostPositions;
@@ -57,7 +57,7 @@ impl<A: Allocator + Copy> HostBench<A> {
         ensures opened { IfOk result (λ bench. bench ≡ table (opened_alone config)) }
         ensures refused { IfErr result (λ why. RefusesOpening config why) }
     {
-        let opened = match Host::open(alloc, config, BlockSizes::Any) {
+        let opened = match Host::open(alloc, config, Peer::Device) {
             Ok(opened) => opened,
             Err(why) => return Err(why),
         };

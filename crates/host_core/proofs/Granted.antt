@@ -1,24 +1,24 @@
 -- Commands that are reserved.
 use Rattle.machine_model.specs.Events as events
 use Rattle.host_core.specs.Rows as declared
-use Rattle.std.proofs.Common.{◌≡◌, ℕ, ◌<◌, ◌≤◌, ◌==◌, nat_lt, true, false, ◌&&◌, ◌||◌, Some, None, List, [], ◌∷◌, ◌++◌, length, map, slice_get, slice_set, is_none, refl, ap, ap₂, sym, ◌∙◌, arith, subst, length-set, if◌then◌else◌, not, ◌+◌, All, length-append, inl, inr}
-use Rattle.std.proofs.lemmas.Bool.{true≢false, true_from_ne_false, false_from_ne_true, cases_Bool, cond_both, or_left, or_right, or_parts}
+use Rattle.std.proofs.Common.{◌≡◌, ℕ, ◌<◌, ◌≤◌, ◌==◌, nat_lt, Bool, true, false, ◌&&◌, ◌||◌, Option, Some, None, List, [], ◌∷◌, ◌++◌, length, map, slice_get, slice_set, is_none, is_some, refl, ap, ap₂, sym, ◌∙◌, arith, subst, eqb-true, length-set, if◌then◌else◌, not, ◌+◌, All, length-append, inl, inr}
+use Rattle.std.proofs.lemmas.Bool.{and_parts, not-false, true≢false, true_from_ne_false, false_from_ne_true, cases_Bool, cond_both, or_left, or_right, or_parts}
 use Rattle.std.proofs.lemmas.List.{length-map, take_at, drop_at, Elements.{All-map, All-append}}
 use Rattle.std.{proofs.lemmas.Option.{slice_get-map, slice_get_within}, specs.{List.AllByRecursion, Option.{option_map}}}
 use Rattle.io_commands.specs.{Asked.Request, DataBytes.PagesOut, Drafts.DraftContents, Least.pages_with}
-use Rattle.io_commands.specs.{Requests.{fault_of, data_count, FitsRequest, joined_parts}, Values.{numbers_of, data_part, chain_part}}
+use Rattle.io_commands.specs.{Requests.{fault_of, data_count, FitsRequest, is_admin, joined_parts}, Values.{numbers_of, data_part, chain_part}, declared.request.Kind.Kind}
 use Rattle.machine_model.proofs.Counting.{times-append, held_once, times-filter, times-pages, not_held, zeroed_numbers}
 use Rattle.machine_model.proofs.{Headline.{length_placed, placed_times, two_placed, length_left}, Moves.queue_known}
 use Rattle.machine_model.{proofs.Steps.{length-without_pages}, specs.After.{after_reserve, change}}
 use Rattle.machine_model.specs.{Memory.{without_pages, zeroed_pages}, Placement.{placed, without_numbers, data_placed}}
-use Rattle.machine_model.specs.{Refusals.{refusal_of, no_io_queue, in_state, in_service}, State.{State, Record}}
-use Rattle.machine_model.specs.{Step.{IsReserved, times}, declared.words.{Phase.TheVariants.Drafted, Work.TheVariants.Io}}
+use Rattle.machine_model.specs.{Refusals.{refusal_of, lacks_queue, no_io_queue, in_state, in_service, is_deleting, takes_admin}, State.{State, Record}}
+use Rattle.machine_model.specs.{Step.{IsReserved, times}, declared.words.{Phase.TheVariants.Drafted, Refusal.Refusal, Work.TheVariants.Io}}
 use Rattle.page_ledger.specs.{Owners.{is_among, owner_at, with_owner, free_pages, is_free, is_owned_at, pages_from}, declared.owner.Owner.Owner}
 use Rattle.page_ledger.{specs.declared.owner.{Owner.TheVariants.{Free, Command}, Role.TheVariants.{Data, Chain}}, proofs.Tables.{length-with_owner, owner-with}}
-use Rattle.host_core.proofs.{Ending.{Fits, due, moved_is, moved_whole}, Identifiers.{claim-more, sound-of}}
+use Rattle.host_core.proofs.{Ending.{Fits, due, moved_is, moved_whole}, Identifiers.{claim-more, queue-here, sound-of}}
 use Rattle.host_core.proofs.{PageOwners.{free-owner, granted-free, among-append, pool-without, can-take, free-in, without-append}, QueueLists.Steps}
 use Rattle.host_core.specs.{Alone.HasPlacedPages, Commands.{reserved, record_of_draft, first_placed, then_placed, with_claim, CanTake, Grants, new_draft}}
-use Rattle.host_core.specs.{Rows.Queue, Tables.{Tables, state_of, host_queue_of, view_of}, Whole.{IsWhole, TellsCommand, IsRecord}}
+use Rattle.host_core.specs.{Rows.Queue, Tables.{Tables, state_of, host_queue_of, view_of}, Whole.{IsHost, IsWhole, TellsCommand, IsRecord}}
 use Rattle.page_memory.specs.Pages.{Pages, zero_page}
 use Rattle.sgl_chain.specs.Chains.{pages_needed}
 use Rattle.slot_table.proofs.Rows.{option_is}
@@ -32,20 +32,35 @@ use Rattle.entry_codec.specs.declared.hints.TheConstants.Hints.{NONE}
 -- What is known where a reservation isn't refused
 
 record Passes (s : State) (q : ℕ) (r : Request) : Type 0 where
-  queue : no_io_queue s q ≡ false
+  queue : lacks_queue s q r.kind ≡ false
   good : fault_of r.kind r.block_size r.blocks r.pieces ≡ None
 
-passes : (s : State) (q : ℕ) (r : Request) → refusal_of s (events.Reserve q r) ≡ None → Passes s q r
-passes s q r none = record { queue = grind (arith, none); good = none_of (fault_of r.kind r.block_size r.blocks r.pieces) (grind (arith, none)) }
+-- of the first three causes
+first-and-third : (a b c : Bool) (x y z : Refusal) (rest : Option Refusal) → (if a then Some x else if b then Some y else if c then Some z else rest) ≡ None → (a ≡ false) × (c ≡ false)
+first-and-third a b c x y z rest none = (grind arith, grind arith)
 
-pub queue_there : (t : Tables) (q : ℕ) → no_io_queue (state_of t) q ≡ false → (queue : declared.Queue) × (slice_get t.queues q ≡ Some queue)
-queue_there t q known = elim (option_is (slice_get t.queues q)) [
+passes : (s : State) (q : ℕ) (r : Request) → refusal_of s (events.Reserve q r) ≡ None → Passes s q r
+passes s q r none =
+    let both = first-and-third (lacks_queue s q r.kind) (in_state is_deleting s q) (is_some (fault_of r.kind r.block_size r.blocks r.pieces)) _ _ _ _ none in
+    record { queue = both.0; good = none_of (fault_of r.kind r.block_size r.blocks r.pieces) both.1 }
+
+io-there : (t : Tables) (q : ℕ) → no_io_queue (state_of t) q ≡ false → (queue : declared.Queue) × (slice_get t.queues q ≡ Some queue)
+io-there t q known = elim (option_is (slice_get t.queues q)) [
   | inr x ↦ x
   | inl e ↦ absurd (true≢false (sym (ap is_none (slice_get-map host_queue_of t.queues q ∙ ap (option_map host_queue_of) e)) ∙ there))
 ]
   where
     there : is_none (slice_get (map host_queue_of t.queues) q) ≡ false
     there = queue_known in_service (state_of t) q (or_parts (q == 0) (not (in_state in_service (state_of t) q)) known).1
+
+-- an I/O queue in service, and for an admin command queue 0
+pub queue_there : (t : Tables) → IsHost t → (q : ℕ) (kind : Kind) → lacks_queue (state_of t) q kind ≡ false → (queue : declared.Queue) × (slice_get t.queues q ≡ Some queue)
+queue_there t h q kind known = elim (cases_Bool (is_admin kind)) [
+  | inr other ↦ io-there t q (rw other at known)
+  | inl admin ↦
+      let zeroth : q ≡ 0 = eqb-true q 0 (and_parts (takes_admin t.peer) (q == 0) (not-false _ (rw admin at known))).1 in
+      queue-here t.queues q (omega (arith, zeroth, h.limits.some_queues))
+]
 
 -- The pages that are reserved
 
@@ -129,7 +144,7 @@ reserved_step t q r d whole proper none is =
     )
   where
     at : (queue : declared.Queue) × (slice_get t.queues d.q ≡ Some queue)
-    at = queue_there t d.q (rw is.queue (passes (state_of t) q r none).queue)
+    at = queue_there t whole.host d.q r.kind (rw is.queue (passes (state_of t) q r none).queue)
 
     fits : Fits t d.q (λ claimed. slice_set claimed d.cid true) (reserved d t).pages (reserved d t).owners (reserved d t).records
     fits = record {

@@ -1,14 +1,14 @@
 -- What a request is refused for, and what it gets.
-use Rattle.std.proofs.Common.{◌≡◌, ℕ, zero, suc, ◌+◌, ◌-◌, ◌<◌, ◌≤◌, ◌==◌, inl, inr, nat_lt, Bool, true, false, not, ◌||◌, Some, None, List, [], ◌∷◌, length, position, slice_get, refl, ap, sym, ◌∙◌, arith, if◌then◌else◌, lt-ltb, le-ltb, eq-eqb}
+use Rattle.std.proofs.Common.{◌≡◌, ℕ, zero, suc, ◌+◌, ◌-◌, ◌<◌, ◌≤◌, ◌==◌, inl, inr, nat_lt, Bool, true, false, not, ◌&&◌, ◌||◌, Some, None, List, [], ◌∷◌, length, position, slice_get, refl, ap, sym, ◌∙◌, arith, if◌then◌else◌, lt-ltb, le-ltb, eq-eqb}
 use Rattle.std.proofs.lemmas.{Bool.{true_from_ne_false, cases_lt, not-true, Decides.nat_tests}, Option.{slice_get-map, slice_get_within}}
-use Rattle.io_commands.specs.{Asked.Request, Least.least_pages, Requests.{fault_of, data_count}, declared.request.{Piece.Piece}}
+use Rattle.io_commands.specs.{Asked.Request, Least.least_pages, Requests.{fault_of, data_count, is_admin}, declared.request.{Kind.Kind, Piece.Piece}}
 use Rattle.machine_model.{proofs.Counting.{one, times-cons, held_once, not_held}, specs.Placement.{wanted_of, chain_wanted}}
-use Rattle.machine_model.specs.Refusals.{refusal_of, no_io_queue, in_state, is_deleting, no_identifier, pages_wanted, in_service, takes}
+use Rattle.machine_model.specs.Refusals.{refusal_of, lacks_queue, no_io_queue, in_state, is_deleting, no_identifier, pages_wanted, in_service, takes, takes_admin}
 use Rattle.machine_model.specs.{State.{State, outstanding_on}, Step.{IsNewIdentifier, Refuses, times}, declared.words.HostState.HostState}
 use Rattle.page_ledger.specs.Owners.{is_among, free_pages}
 use Rattle.queue_pair.proofs.Halves.{found_within, found_free, all_claimed, lower_claimed}
 use Rattle.host_core.{proofs.Identifiers.{outstanding-among, queue-here}, specs.Alone.IsLowest}
-use Rattle.host_core.specs.{Commands.{state_at, passes, takes_no_io, Grants}, Rows.Queue, Tables.{Tables, state_of, view_of, host_queue_of}}
+use Rattle.host_core.specs.{Commands.{state_at, passes, takes_no_io, lacks, Grants}, Rows.Queue, Tables.{Tables, state_of, view_of, host_queue_of}}
 use Rattle.host_core.specs.Whole.{IsWhole, is_outstanding}
 use Rattle.machine_model.specs.Events as events
 use Rattle.machine_model.specs.declared.words.Refusal.TheVariants as refusal
@@ -26,6 +26,9 @@ in_state-is test t q = elim (option_is (slice_get t.queues q)) [
 
 pub no_io-is : (t : Tables) (q : ℕ) → no_io_queue (state_of t) q ≡ takes_no_io q (state_at t.queues q)
 no_io-is t q = ap (λ b. (q == 0) || not b) (in_state-is in_service t q)
+
+pub lacks-is : (t : Tables) (q : ℕ) (kind : Kind) → lacks_queue (state_of t) q kind ≡ lacks t.peer q (state_at t.queues q) kind
+lacks-is t q kind = ap (λ b. if is_admin kind then not (takes_admin t.peer && (q == 0)) else b) (no_io-is t q)
 
 -- Identifiers
 
@@ -120,30 +123,30 @@ none-left t whole q queue at next =
 
 -- The refusals
 
-pub refuses-other_blocks : (s : State) (q : ℕ) (r : Request) → no_io_queue s q ≡ false → in_state is_deleting s q ≡ false → fault_of r.kind r.block_size r.blocks r.pieces ≡ None
-    → takes s.host.block_sizes r.block_size ≡ false → Refuses s (events.Reserve q r) refusal.OtherBlocks []
+pub refuses-other_blocks : (s : State) (q : ℕ) (r : Request) → lacks_queue s q r.kind ≡ false → in_state is_deleting s q ≡ false → fault_of r.kind r.block_size r.blocks r.pieces ≡ None
+    → takes s.host.peer r.block_size ≡ false → Refuses s (events.Reserve q r) refusal.OtherBlocks []
 refuses-other_blocks s q r a b c d = (rw (a, b, c, d) refl, refl)
 
-pub refuses-no_identifier : (s : State) (q : ℕ) (r : Request) → no_io_queue s q ≡ false → in_state is_deleting s q ≡ false → fault_of r.kind r.block_size r.blocks r.pieces ≡ None
-    → takes s.host.block_sizes r.block_size ≡ true → no_identifier s q ≡ true
+pub refuses-no_identifier : (s : State) (q : ℕ) (r : Request) → lacks_queue s q r.kind ≡ false → in_state is_deleting s q ≡ false → fault_of r.kind r.block_size r.blocks r.pieces ≡ None
+    → takes s.host.peer r.block_size ≡ true → no_identifier s q ≡ true
     → Refuses s (events.Reserve q r) refusal.NoIdentifier []
 refuses-no_identifier s q r a b c d e = (rw (a, b, c, d, e) refl, refl)
 
-pub refuses-no_pages : (s : State) (q : ℕ) (r : Request) → no_io_queue s q ≡ false → in_state is_deleting s q ≡ false → fault_of r.kind r.block_size r.blocks r.pieces ≡ None
-    → takes s.host.block_sizes r.block_size ≡ true → no_identifier s q ≡ false
+pub refuses-no_pages : (s : State) (q : ℕ) (r : Request) → lacks_queue s q r.kind ≡ false → in_state is_deleting s q ≡ false → fault_of r.kind r.block_size r.blocks r.pieces ≡ None
+    → takes s.host.peer r.block_size ≡ true → no_identifier s q ≡ false
     → length s.host.free < pages_wanted s r → Refuses s (events.Reserve q r) (refusal.NoPages (pages_wanted s r) (length s.host.free)) []
 refuses-no_pages s q r a b c d e l = (rw (a, b, c, d, e, lt-ltb (length s.host.free) (pages_wanted s r) l) refl, refl)
 
-pub refuses-nothing : (s : State) (q : ℕ) (r : Request) → no_io_queue s q ≡ false → in_state is_deleting s q ≡ false → fault_of r.kind r.block_size r.blocks r.pieces ≡ None
-    → takes s.host.block_sizes r.block_size ≡ true → no_identifier s q ≡ false
+pub refuses-nothing : (s : State) (q : ℕ) (r : Request) → lacks_queue s q r.kind ≡ false → in_state is_deleting s q ≡ false → fault_of r.kind r.block_size r.blocks r.pieces ≡ None
+    → takes s.host.peer r.block_size ≡ true → no_identifier s q ≡ false
     → pages_wanted s r ≤ length s.host.free → refusal_of s (events.Reserve q r) ≡ None
 refuses-nothing s q r a b c d e l = rw (a, b, c, d, e, le-ltb (length s.host.free) (pages_wanted s r) l) refl
 
 pub refuses-memory : (s : State) (q : ℕ) (r : Request) → refusal_of s (events.Reserve q r) ≡ None → Refuses s (events.Reserve q r) refusal.Memory []
 refuses-memory s q r none = (refl, none, refl)
 
-pub refuses-too_few : (s : State) (q : ℕ) (r : Request) (need free : ℕ) → no_io_queue s q ≡ false → in_state is_deleting s q ≡ false → fault_of r.kind r.block_size r.blocks r.pieces ≡ None
-    → takes s.host.block_sizes r.block_size ≡ true → no_identifier s q ≡ false
+pub refuses-too_few : (s : State) (q : ℕ) (r : Request) (need free : ℕ) → lacks_queue s q r.kind ≡ false → in_state is_deleting s q ≡ false → fault_of r.kind r.block_size r.blocks r.pieces ≡ None
+    → takes s.host.peer r.block_size ≡ true → no_identifier s q ≡ false
     → need ≡ pages_wanted s r → free ≡ length s.host.free → free < need → Refuses s (events.Reserve q r) (refusal.NoPages need free) []
 refuses-too_few s q r need free a b c d e en ef l = rw (en, ef) (refuses-no_pages s q r a b c d e (omega (arith, l, en, ef)))
 
@@ -152,10 +155,10 @@ refuses-too_few s q r need free a b c d e en ef l = rw (en, ef) (refuses-no_page
 pub record Asked (t : Tables) (q : ℕ) (r : Request) : Type 0 where
   pub queue : Queue
   pub at : slice_get t.queues q ≡ Some queue
-  pub known : no_io_queue (state_of t) q ≡ false
+  pub known : lacks_queue (state_of t) q r.kind ≡ false
   pub stays : in_state is_deleting (state_of t) q ≡ false
   pub good : fault_of r.kind r.block_size r.blocks r.pieces ≡ None
-  pub fits : takes t.block_sizes r.block_size ≡ true
+  pub fits : takes t.peer r.block_size ≡ true
 
 -- where the data has room, the pages of the placement are wanted
 pub wanted-placed : (free : List ℕ) (segment : ℕ) (pieces : List Piece) → data_count pieces ≤ length free → wanted_of free segment pieces ≡ data_count pieces + chain_wanted free segment pieces

@@ -1,12 +1,12 @@
 -- Identifiers, and the places of records.
-use Rattle.std.proofs.Common.{◌≡◌, ℕ, suc, ◌+◌, ◌<◌, Some, List, [], ◌∷◌, length, map, slice_get, refl, sym, ◌∙◌, arith, subst, ◌≢◌, ◌==◌, inl, inr, Bool, true, false, not, ◌&&◌, ◌||◌, ◌++◌, slice_set, ap, length-set, eqb-true, eq-eqb, zero, ◌-◌, None, find, ap₂, is_some, ◌≤◌, nat_lt, if◌then◌else◌, lt-ltb}
+use Rattle.std.proofs.Common.{◌≡◌, ℕ, suc, ◌+◌, ◌<◌, Some, List, [], ◌∷◌, length, map, slice_get, refl, sym, ◌∙◌, arith, subst, ◌≢◌, ◌==◌, inl, inr, Bool, true, false, ◌&&◌, ◌||◌, ◌++◌, slice_set, ap, length-set, eqb-true, eq-eqb, zero, ◌-◌, None, find, ap₂, is_some, ◌≤◌, nat_lt, if◌then◌else◌, lt-ltb}
 use Rattle.std.proofs.lemmas.Bool.{true≢false, or_parts, or_right, cases_eq, cases_Bool, cond_both, false_from_ne_true, true_from_ne_false, ne_eqb, not-true, Decides.nat_tests}
 use Rattle.std.{specs.{List.{AllByRecursion, list_any}, Option.option_map_or}, proofs.lemmas.List.Folds.list_any-append}
 use Rattle.machine_model.proofs.Counting.{total as sum_of, here, times-outstanding, one, held_once, not_held, total as total_counting}
 use Rattle.machine_model.{proofs.Headline.counts_are_all, specs.After.{change, is_of_io, lost}}
 use Rattle.machine_model.specs.{Claims.{IsSound, HasNoOtherPages, HasOneOwner, counts_of, OwnsFit}, Positions.IsInRing, Refusals.{deletes_cq_of, is_submitted}}
 use Rattle.machine_model.specs.{State.{State, Host, Record, is_at, outstanding_on, without_record, pages_of, with_record}, Step.{IsNewIdentifier}}
-use Rattle.machine_model.specs.{Work.Work, declared.words.{Work.TheVariants.{Io, Management}}}
+use Rattle.machine_model.specs.{Work.Work, declared.words.{Peer.Peer, Work.TheVariants.{Io, Management}}}
 use Rattle.host_core.proofs.{Lists.{each-change, map-agree}, RowRecords.{claims-same, empty-row}}
 use Rattle.host_core.specs.{Alone.{alone, IsSoundHost}, Commands.{with_claim, without_claim}, Parts.tables_of, Resetting.{HasPlaces, IsPlaced}}
 use Rattle.host_core.specs.{Rows.Queue, Tables.{Tables, view_of, host_queue_of, state_of}}
@@ -228,7 +228,7 @@ record-inside t h i r at =
     omega (arith, below, is.host_side.identifiers, is.entries)
 
 -- the only one there is the one that is found
-only-found : (q cid : ℕ) (rs : List Record) (i : ℕ) (r : Record) → slice_get rs i ≡ Some r → is_at q cid r ≡ true → total_counting (here q cid) rs < 2 → find (is_at q cid) rs ≡ Some r
+pub only-found : (q cid : ℕ) (rs : List Record) (i : ℕ) (r : Record) → slice_get rs i ≡ Some r → is_at q cid r ≡ true → total_counting (here q cid) rs < 2 → find (is_at q cid) rs ≡ Some r
 only-found q cid [] i r at e few = absurd (none_some at)
 only-found q cid (x ∷ rs) zero r at e few = rw (ap (is_at q cid) (some_is at) ∙ e) at
 only-found q cid (x ∷ rs) (suc i) r at e few = elim (cases_Bool (is_at q cid x)) [
@@ -247,15 +247,15 @@ deletion-found rs q cid h = elim (option_is (find (is_at 0 cid) rs)) [
   | inr (r, e) ↦ let i = found_at (is_at 0 cid) rs r e in any_passes_from_place (deletes q) rs i.0 r i.1 (rw e at h)
 ]
 
-of-zero : (q k : ℕ) (w : Work) (pages : List ℕ) → OwnsFit k w pages → deletes_cq_of q w ≡ true → k ≡ 0
-of-zero q k (Io r) pages fit h = absurd (true≢false (sym h))
-of-zero q k (Management a) pages fit h = fit.0
+of-zero : (peer : Peer) (q k : ℕ) (w : Work) (pages : List ℕ) → OwnsFit peer k w pages → deletes_cq_of q w ≡ true → k ≡ 0
+of-zero peer q k (Io r) pages fit h = absurd (true≢false (sym h))
+of-zero peer q k (Management a) pages fit h = fit.0
 
 pub deletion-none : (t : Tables) → IsHost t → (q n : ℕ) → n + 1 ≡ t.entries → ((i : ℕ) → i < n → option_map_or (deletes q) (find (is_at 0 i) t.records) false ≡ false) → list_any (deletes q) t.records ≡ false
 deletion-none t h q n size none = false_from_ne_true (list_any (deletes q) t.records) (λ e.
     let f = any-found (deletes q) t.records e in
     let r : Record = f.1 in
-    let zeroth = of-zero q r.q r.work (pages_of r) (all-at (λ (x : Record). OwnsFit x.q x.work (pages_of x)) t.records f.0 r f.2 h.sound.works_fit) f.3 in
+    let zeroth = of-zero t.peer q r.q r.work (pages_of r) (all-at (λ (x : Record). OwnsFit t.peer x.q x.work (pages_of x)) t.records f.0 r f.2 h.sound.works_fit) f.3 in
     let found = only-found 0 r.cid t.records f.0 r f.2 (subst (λ (k : ℕ). is_at k r.cid r ≡ true) zeroth (at-own r)) (once_of t h 0 r.cid) in
     true≢false (sym f.3 ∙ (ap (λ o. option_map_or (deletes q) o false) (sym found) ∙ none r.cid (omega (arith, record-inside t h f.0 r f.2, size)))))
 
@@ -304,9 +304,9 @@ all-lost t h q n size =
 
 -- Each command of a host stands in its place.
 
-of-io : (q : ℕ) (w : Work) (pages : List ℕ) → OwnsFit q w pages → is_of_io w ≡ not (q == 0)
-of-io q (Io request) pages fit = ap not (sym fit)
-of-io q (Management kind) pages fit = ap not (sym (eq-eqb q 0 fit.0))
+of-own : (peer : Peer) (q : ℕ) (w : Work) (pages : List ℕ) → OwnsFit peer q w pages → is_of_io w ≡ false → q ≡ 0
+of-own peer q (Io request) pages fit own = absurd (true≢false own)
+of-own peer q (Management kind) pages fit own = fit.0
 
 pub places-of : (t : Tables) → IsHost t → HasPlaces t
 places-of t h =
@@ -317,6 +317,6 @@ places-of t h =
           record {
             queue = (all-at (IsRecord (length t.queues)) t.records i r at h.table.records).queue;
             identifier = record-inside t h i r at;
-            work = of-io r.q r.work (pages_of r) (all-at (λ (x : Record). OwnsFit x.q x.work (pages_of x)) t.records i r at h.sound.works_fit);
+            own = of-own t.peer r.q r.work (pages_of r) (all-at (λ (x : Record). OwnsFit t.peer x.q x.work (pages_of x)) t.records i r at h.sound.works_fit);
           });
     }

@@ -1,4 +1,5 @@
 pub mod RowRecords
+pub mod ResetRecords
 pub mod Identifiers
 pub mod Lists
 pub mod PageOwners

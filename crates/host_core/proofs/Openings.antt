@@ -13,7 +13,7 @@ use Rattle.host_core.specs.{Parts.records_of, Ringing.head_of, Rows.{Queue, Reco
 use Rattle.host_core.{specs.{Whole.{HasLimits, IsHost, IsWhole, IsQueue, ClaimsIdentifiers, TellsQueue}, declared.config.Config.Config}, proofs.Making.claims-none}
 use Rattle.machine_model.{proofs.Headline.{runs_are_sound, fits_pool, in_limits}, specs.{Claims.IsSound, Events.{Event, Reply}}}
 use Rattle.machine_model.specs.{Opening.{opening, queues_from}, Refusals.refusal_of, State.{State, HostQueue}, Step.{Step, Refuses}}
-use Rattle.machine_model.specs.declared.words.{BlockSizes.BlockSizes, Refusal.Refusal}
+use Rattle.machine_model.specs.declared.words.{Peer.Peer, Refusal.Refusal}
 use Rattle.queue_pair.specs.Memory.{half_pages}
 use Rattle.slot_table.specs.Table.{TableOf}
 use Rattle.page_ledger.proofs.Pages.{length-pages_from}
@@ -210,15 +210,15 @@ free_is base pages owners size from =
     rest_pass (is_owned_at is_free owners) 0 base (length owners) (λ p l h. from.used p (omega arith)) (λ p l h. ap (λ o. option_map_or is_free o false) (from.free p (omega arith) (omega arith)))
     ∙ ap (λ (k : ℕ). drop base (pages_from 0 k)) size
 
-abbrev built : Config → BlockSizes → List ℕ → List HostQueue → HostView
-built c sizes free hosts = record { entries = c.entries; segment = c.segment; host = record { block_sizes = sizes; free = free; queues = hosts; records = [] } }
+abbrev built : Config → Peer → List ℕ → List HostQueue → HostView
+built c peer free hosts = record { entries = c.entries; segment = c.segment; host = record { peer = peer; free = free; queues = hosts; records = [] } }
 
-pub opened_view_is : (c : Config) (sizes : BlockSizes) (owners : List Owner) → length owners ≡ c.pages → HalvesGranted c.entries (c.queues + 1) owners → view_of (opened c sizes owners) ≡ opened_view c sizes
-opened_view_is c sizes owners size granted =
+pub opened_view_is : (c : Config) (peer : Peer) (owners : List Owner) → length owners ≡ c.pages → HalvesGranted c.entries (c.queues + 1) owners → view_of (opened c peer owners) ≡ opened_view c peer
+opened_view_is c peer owners size granted =
     let hosts = map host_queue_of (fresh_queues c.entries (c.queues + 1)) in
     let base = sq_from (half_pages c.entries Submission) (half_pages c.entries Completion) (c.queues + 1) in
-    ap (λ (free : List ℕ). built c sizes free hosts) (free_is base c.pages owners size granted.rest)
-    ∙ ap (λ (l : List HostQueue). built c sizes (drop base (pages_from 0 c.pages)) l) (host_queues c.entries 0 0 (c.queues + 1) (omega arith))
+    ap (λ (free : List ℕ). built c peer free hosts) (free_is base c.pages owners size granted.rest)
+    ∙ ap (λ (l : List HostQueue). built c peer (drop base (pages_from 0 c.pages)) l) (host_queues c.entries 0 0 (c.queues + 1) (omega arith))
 
 -- The limits
 
@@ -292,20 +292,20 @@ blank_pool zero p = tt
 blank_pool (suc n) zero = length-zero_page
 blank_pool (suc n) (suc p) = blank_pool n p
 
--- what is sound says nothing of the sizes of blocks
-sized_sound : (sizes : BlockSizes) (s : State) → IsSound s → IsSound (record s { host = record s.host { block_sizes = sizes } })
-sized_sound sizes s h =
-    record { owners = h.owners; counted = h.counted; identifiers = h.identifiers; out = h.out; works_fit = h.works_fit; deletions = h.deletions; creations = h.creations; bare = h.bare; halves = h.halves; admin = h.admin }
+-- what is sound with no record says nothing of whom the host speaks to
+sized_sound : (peer : Peer) (s : State) → s.host.records ≡ [] → IsSound s → IsSound (record s { host = record s.host { peer = peer } })
+sized_sound peer s none h =
+    record { owners = h.owners; counted = h.counted; identifiers = h.identifiers; out = h.out; works_fit = rw none tt; deletions = h.deletions; creations = h.creations; bare = h.bare; halves = h.halves; admin = h.admin }
 
 -- What is opened is whole.
-pub opened_whole : (c : Config) (sizes : BlockSizes) (owners : List Owner) → refusal_of_config c ≡ None → length owners ≡ c.pages → HalvesGranted c.entries (c.queues + 1) owners → IsWhole (opened c sizes owners)
-opened_whole c sizes owners opens size granted =
+pub opened_whole : (c : Config) (peer : Peer) (owners : List Owner) → refusal_of_config c ≡ None → length owners ≡ c.pages → HalvesGranted c.entries (c.queues + 1) owners → IsWhole (opened c peer owners)
+opened_whole c peer owners opens size granted =
     let l = limits c opens in
-    let view = opened_view_is c sizes owners size granted in
+    let view = opened_view_is c peer owners size granted in
     let start : State = opening c.pages c.queues c.entries c.segment [] in
-    let sound = sized_sound sizes start (runs_are_sound c.pages c.queues c.entries c.segment [] [] [] start opens refl) in
+    let sound = sized_sound peer start refl (runs_are_sound c.pages c.queues c.entries c.segment [] [] [] start opens refl) in
     let many : length (fresh_queues c.entries (c.queues + 1)) ≡ c.queues + 1 = length-map (pages_from 0 (c.queues + 1)) (fresh_queue c.entries) ∙ length-pages_from 0 (c.queues + 1) in
-    whole-of (opened c sizes owners)
+    whole-of (opened c peer owners)
     (record {
       pool = record { few = omega (arith, length-replicate c.pages (Some zero_page), l.most_pages); whole = blank_pool c.pages };
       lent = size ∙ sym (length-replicate c.pages (Some zero_page));
@@ -317,14 +317,14 @@ opened_whole c sizes owners opens size granted =
       };
       rings = record { each = each_fresh (IsQueue c.entries) c.entries (c.queues + 1) (λ q h. fresh_sides c.entries _ _ q l.numbers.least_entries l.numbers.most_entries) };
     })
-    (subst (λ (v : HostView). IsSound (alone v (opened_pages c))) (sym view) (alone_sound (record start { host = record start.host { block_sizes = sizes } }) sound))
+    (subst (λ (v : HostView). IsSound (alone v (opened_pages c))) (sym view) (alone_sound (record start { host = record start.host { peer = peer } }) sound))
 
-abbrev pub made : Config → BlockSizes → List Owner → TableOf RecordRow → List Queue → Tables
-made c sizes owners table queues =
+abbrev pub made : Config → Peer → List Owner → TableOf RecordRow → List Queue → Tables
+made c peer owners table queues =
     record {
       entries = c.entries;
       segment = c.segment;
-      block_sizes = sizes;
+      peer = peer;
       pages = [];
       owners = owners;
       record_queues = table.queues;
@@ -338,19 +338,19 @@ abbrev pub no_records : Config → TableOf RecordRow
 no_records c = record { queues = c.queues + 1; places = c.entries - 1; rows = [] }
 
 -- What is made is the host's own, is as the machine opens, and is over its pages.
-pub record Opens (c : Config) (sizes : BlockSizes) (t : Tables) : Type 0 where
+pub record Opens (c : Config) (peer : Peer) (t : Tables) : Type 0 where
   pub host : IsHost t
-  pub view : view_of t ≡ opened_view c sizes
+  pub view : view_of t ≡ opened_view c peer
   pub over : IsOver (view_of t) (opened_pages c)
 
-pub opens_made : (c : Config) (sizes : BlockSizes) (owners : List Owner) (table : TableOf RecordRow) (queues : List Queue)
+pub opens_made : (c : Config) (peer : Peer) (owners : List Owner) (table : TableOf RecordRow) (queues : List Queue)
     → refusal_of_config c ≡ None → length owners ≡ c.pages → HalvesGranted c.entries (c.queues + 1) owners
-    → table ≡ no_records c → queues ≡ fresh_queues c.entries (c.queues + 1) → Opens c sizes (made c sizes owners table queues)
-opens_made c sizes owners table queues opens size granted er eq =
-    let w = opened_whole c sizes owners opens size granted in
+    → table ≡ no_records c → queues ≡ fresh_queues c.entries (c.queues + 1) → Opens c peer (made c peer owners table queues)
+opens_made c peer owners table queues opens size granted er eq =
+    let w = opened_whole c peer owners opens size granted in
     rw (er, eq) (record {
-      host = host_of (made c sizes owners (no_records c) (fresh_queues c.entries (c.queues + 1))) (replicate c.pages (Some zero_page)) w;
-      view = opened_view_is c sizes owners size granted;
+      host = host_of (made c peer owners (no_records c) (fresh_queues c.entries (c.queues + 1))) (replicate c.pages (Some zero_page)) w;
+      view = opened_view_is c peer owners size granted;
       over = w.over;
     })
 

@@ -1,4 +1,4 @@
--- Records that are found by their names; and an I/O command stays outstanding until it is cancelled or released.
+-- Records that are found by their names; and a command of the caller's stays outstanding until it is cancelled or released.
 use Rattle.machine_model.specs.After as a
 use Rattle.machine_model.specs.Events as events
 use Rattle.std.proofs.Common.{◌≡◌, ℕ, ◌==◌, Bool, true, false, not, ◌&&◌, ◌||◌, Some, None, List, [], ◌∷◌, ◌++◌, map, filter, find, if◌then◌else◌, refl, ap, sym, ◌∙◌, eqb-true, eq-eqb, Option, length, subst, MatchBool, inl, inr, arith}
@@ -65,7 +65,7 @@ module _ (q cid k n : ℕ) (rs : List Record) (r : Record) (at : find (is_at q c
   pub found_without : ((k == q) && (n == cid)) ≡ false → find (is_at q cid) (without_record k n rs) ≡ Some r
   found_without far = find_left (is_at q cid) (λ (x : Record). not (is_at k n x)) (λ x mine. grind (arith, nat_tests, mine, far)) rs r at
 
--- An I/O command stays outstanding until it is cancelled or released, whatever else happens; and no event changes how many queues there are.
+-- A command of the caller's stays outstanding until it is cancelled or released, whatever else happens; and no event changes how many queues there are.
 
 -- What one step keeps of the host's part, if it does where it is accepted
 

@@ -4,19 +4,19 @@ use Rattle.machine_model.specs.Events as events
 use Rattle.machine_model.specs.declared.words.Reaped.TheVariants as found
 use Rattle.page_ledger.specs.declared.owner.Owner.TheVariants as owner
 use Rattle.host_core.proofs.Lists as lists
-use Rattle.std.proofs.Common.{◌≡◌, ℕ, zero, suc, ◌<◌, ◌∷◌, [], Option, Some, None, List, length, map, slice_get, refl, ap, sym, ◌∙◌, subst, true, ◌==◌, Bool, false, if◌then◌else◌, eqb-true, eq-eqb, filter, find, not, slice_set, length-set, arith, ◌⊎◌, inl, inr}
+use Rattle.std.proofs.Common.{◌≡◌, ℕ, zero, suc, ◌<◌, ◌∷◌, [], Option, Some, None, List, length, map, slice_get, refl, ap, sym, ◌∙◌, subst, true, ◌==◌, Bool, false, if◌then◌else◌, eq-eqb, filter, find, not, slice_set, length-set, arith, ◌⊎◌, inl, inr}
 use Rattle.std.proofs.lemmas.{Bool.{true≢false, and_parts, and_right, cases_Bool, cond_both, true_from_ne_false}, List.length-map, Option.slice_get-map}
 use Rattle.std.specs.{Option.{option_map_or, option_map}, List.AllByRecursion}
 use Rattle.entry_codec.specs.{Status.is_success, declared.{completion.ComEntry.ComEntry, hints.{Hints.Hints, TheConstants.Hints.NONE}, status.{Status.Status, TheConstants.Status.ABORTED_SQ_DELETION}}}
 use Rattle.io_commands.specs.Asked.{Request}
-use Rattle.machine_model.proofs.{Kept.{alone_has_cq, alone_has_no_sq, asked_has_sq}, Steps.found_all}
-use Rattle.machine_model.specs.{After.{after_reap, change, held, after_admin, half_freed, half_made, gone, unmade_sq}, Claims.OwnsFit}
+use Rattle.machine_model.proofs.Kept.{alone_has_cq, alone_has_no_sq, asked_has_sq}
+use Rattle.machine_model.specs.{After.{after_reap, change, held, after_admin, half_freed, half_made, gone, unmade_sq}}
 use Rattle.machine_model.specs.Refusals.{refusal_of, seen_entry, is_reaped, creates_cq_of, creates_sq_of, deletes_sq_of, host_queue, is_asked, is_making_cq, is_making_sq, has_cq_alone, has_cq, has_sq}
-use Rattle.machine_model.specs.{State.{State, HostQueue, Record, record_at, with_record, is_at, pages_of, without_record}, Step.{reaped, reaped_entry}}
+use Rattle.machine_model.specs.{State.{State, HostQueue, Record, record_at, with_record, is_at, without_record}, Step.{reaped, reaped_as, reaped_entry}}
 use Rattle.machine_model.specs.{Work.Work, declared.words.HostState.{HostState, TheVariants.{Live, Gone, MakingCq, HalfMade, MakingSq}}}
-use Rattle.machine_model.specs.declared.words.{Phase.TheVariants.Held, RejectedFor.RejectedFor, Work.TheVariants.{Io, Management}}
+use Rattle.machine_model.specs.declared.words.{RejectedFor.RejectedFor, Work.TheVariants.{Io, Management}}
 use Rattle.queue_pair.{proofs.Rings.next_below, specs.{Memory.half_pages, Rings.{knowing, next_head}}}
-use Rattle.host_core.proofs.{Identifiers.{claim-less, sound-of, lent-of, Settled, settled-of}, Granting.in_state-is, Lists.{each-change, length-change}}
+use Rattle.host_core.proofs.{Identifiers.{claim-less, once_of, only-found, sound-of, lent-of, Settled, settled-of}, Granting.in_state-is, Lists.{each-change, length-change}}
 use Rattle.host_core.proofs.PageOwners.{OwnsHalf, commands-told, half-listed, half-owned, others-told, owner-stays, given-free}
 use Rattle.host_core.proofs.QueueLists.{map-change, settled-turned, settled-with, cq-kept, none-told, settled-as, settled-half_made, settled-state, sq-kept}
 use Rattle.host_core.proofs.RowRecords.{Marks, marked-claims, marked-tells, claims_keep_queue, claims_keep_tells, each_claimed}
@@ -28,7 +28,7 @@ use Rattle.admin_commands.specs.declared.AdminKind.{AdminKind, TheVariants.{Abor
 use Rattle.page_ledger.specs.{Lists.ListsAll, Owners.{free_pages, given_back, is_among, is_half, is_owned_at, pages_from}}
 use Rattle.page_memory.specs.declared.page.Half.{Half, TheVariants.{Submission, Completion}}
 use Rattle.slot_table.proofs.Rows.{option_is}
-use Rattle.page_memory.proofs.Lists.{some_is, all-filter, found_is, found_any}
+use Rattle.page_memory.proofs.Lists.{some_is, all-filter, all-slots, found_any}
 use Rattle.machine_model.proofs.Cases.{none_some}
 use Rattle.machine_model.proofs.Moves.{making_cq_is, making_sq_is}
 
@@ -105,7 +105,7 @@ settled-consumed t w q =
     settled-taken t (settled-of t w) q with_completion_taken (λ y told. record { submission = told.submission; completion = told.completion }) (λ y. refl)
     (λ y at. let is = w.host.rings.each q y at in taken-queue t.entries q y.host.ring.known_head y is.host_side.known_head is)
 
--- How an I/O command ended is held
+-- How a command of the caller's ended is held
 
 abbrev pub knowing_head : ℕ → HostQueue → HostQueue
 knowing_head k queue = record queue { ring = knowing k queue.ring }
@@ -124,32 +124,39 @@ heard-host t w q k =
 abbrev pub with_all : State → List HostQueue → List Record → State
 with_all s hs rs = record s { host = record s.host { queues = hs; records = rs } }
 
--- the completion is that of a command of an I/O queue
-pub record EndsIo (t : Tables) (q cid : ℕ) (status : Status) (e : ComEntry) : Type 0 where
+-- what a completion that ends a command leaves, whatever its end is told as
+ends-alike : (s : State) (q : ℕ) (e : ComEntry) → after_reap q (reaped_as q e) s
+    ≡ option_map_or (λ r. option_map_or (λ y. a.after_work r.work q e.cid e.status y.hints (a.heard q y s)) (seen_entry s q) s) (record_at s.host q e.cid) s
+ends-alike s q e = elim (q == 0) as (λ b. after_reap q (if b then found.AdminDone e.cid e.status e.dw0 else found.Done e.cid e.status) s
+    ≡ option_map_or (λ r. option_map_or (λ y. a.after_work r.work q e.cid e.status y.hints (a.heard q y s)) (seen_entry s q) s) (record_at s.host q e.cid) s) [ true ↦ refl | false ↦ refl ]
+
+-- the completion is that of a command of the caller's
+pub record EndsIo (t : Tables) (q : ℕ) (e : ComEntry) : Type 0 where
   pub entry : Record
   pub request : Request
-  pub was : record_at (state_of t).host q cid ≡ Some entry
+  pub was : record_at (state_of t).host q e.cid ≡ Some entry
   pub work : entry.work ≡ Io request
-  pub says : reaped_entry (state_of t) q e ≡ found.Done cid status
+  pub says : reaped_entry (state_of t) q e ≡ reaped_as q e
 
-done-after : (t : Tables) (q cid : ℕ) (status : Status) (x : Queue) (e : ComEntry) → Sees t q x e → EndsIo t q cid status e
-    → after_reap q (found.Done cid status) (state_of t)
-    ≡ a.on_records (with_record q cid (held status e.hints)) (a.on_ring q (knowing e.sqhd) (a.consumed q (state_of t)))
-done-after t q cid status x e sees io =
+done-after : (t : Tables) (q : ℕ) (x : Queue) (e : ComEntry) → Sees t q x e → EndsIo t q e
+    → after_reap q (reaped_as q e) (state_of t)
+    ≡ a.on_records (with_record q e.cid (held e.status e.hints)) (a.on_ring q (knowing e.sqhd) (a.consumed q (state_of t)))
+done-after t q x e sees io =
     let s : State = state_of t in
-    ap (λ (o : Option Record). option_map_or (λ r. option_map_or (λ y. a.after_work r.work q cid status y.hints (a.heard q y s)) (seen_entry s q) s) o s) io.was
-    ∙ (ap (λ (w : Work). option_map_or (λ y. a.after_work w q cid status y.hints (a.heard q y s)) (seen_entry s q) s) io.work
-    ∙ ap (λ (o : Option ComEntry). option_map_or (λ y. a.on_records (with_record q cid (held status y.hints)) (a.heard q y s)) o s) sees.seen)
+    ends-alike s q e
+    ∙ (ap (λ (o : Option Record). option_map_or (λ r. option_map_or (λ y. a.after_work r.work q e.cid e.status y.hints (a.heard q y s)) (seen_entry s q) s) o s) io.was
+    ∙ (ap (λ (w : Work). option_map_or (λ y. a.after_work w q e.cid e.status y.hints (a.heard q y s)) (seen_entry s q) s) io.work
+    ∙ ap (λ (o : Option ComEntry). option_map_or (λ y. a.on_records (with_record q e.cid (held e.status y.hints)) (a.heard q y s)) o s) sees.seen))
 
-pub done-exact : (t : Tables) → IsWhole t → (q cid : ℕ) (status : Status) (x : Queue) (e : ComEntry) → Sees t q x e → EndsIo t q cid status e
-    → Exactly (state_of t) (events.Reap q) (events.Reaps (found.Done cid status)) (state_of (ended_with q e.sqhd cid status e.hints t))
-done-exact t w q cid status x e sees io = (
+pub done-exact : (t : Tables) → IsWhole t → (q : ℕ) (x : Queue) (e : ComEntry) → Sees t q x e → EndsIo t q e
+    → Exactly (state_of t) (events.Reap q) (events.Reaps (reaped_as q e)) (state_of (ended_with q e.sqhd e.cid e.status e.hints t))
+done-exact t w q x e sees io = (
   reap-none t q x sees.at sees.live,
   sym (reaped-told (state_of t) q e sees.seen ∙ io.says),
-  ap (λ (hs : List HostQueue). with_all (state_of t) hs (with_record q cid (held status e.hints) t.records)) (heard-host t w q e.sqhd) ∙ sym (done-after t q cid status x e sees io),
+  ap (λ (hs : List HostQueue). with_all (state_of t) hs (with_record q e.cid (held e.status e.hints) t.records)) (heard-host t w q e.sqhd) ∙ sym (done-after t q x e sees io),
 )
 
--- A completion was taken, and how an I/O command ended is held: the tables stay whole.
+-- A completion was taken, and how a command of the caller's ended is held: the tables stay whole.
 
 pub settled-heard : (t : Tables) → IsWhole t → (q : ℕ) (x : Queue) (e : ComEntry) → Sees t q x e → e.sqhd < x.host.entries → Settled (heard q e.sqhd t)
 settled-heard t w q x e sees below =
@@ -165,7 +172,7 @@ pub work-cases : (w : Work) → ((request : Request) × (w ≡ Io request)) ⊎ 
 work-cases (Io request) = inl (request, refl)
 work-cases (Management kind) = inr (kind, refl)
 
--- an I/O command that is held, with its status and hints
+-- a command of the caller's that is held, with its status and hints
 held-as : (n : ℕ) (status : Status) (hints : Hints) (r : Record) → (request : Request) × (r.work ≡ Io request) → IsRecord n r → IsRecord n (held status hints r)
 held-as n status hints r (request, e) fits =
     let old : FitsWork (Io request) r = subst (λ (v : Work). FitsWork v r) e fits.work in
@@ -174,45 +181,43 @@ held-as n status hints r (request, e) fits =
 pub held-lost : (n : ℕ) (r : Record) → (request : Request) × (r.work ≡ Io request) → IsRecord n r → IsRecord n (a.aborted r)
 held-lost n r io fits = held-as n ABORTED_SQ_DELETION NONE r io fits
 
-held-fits : (n q cid : ℕ) (status : Status) (hints : Hints) (r : Record) → (q == 0) ≡ false → is_at q cid r ≡ true → OwnsFit r.q r.work (pages_of r) → IsRecord n r → IsRecord n (held status hints r)
-held-fits n q cid status hints r io at owns fits = elim (work-cases r.work) [
-  | inl is ↦ held-as n status hints r is fits
-  | inr (kind, e) ↦
-      let none : OwnsFit r.q (Management kind) (pages_of r) = subst (λ (v : Work). OwnsFit r.q v (pages_of r)) e owns in
-      absurd (true≢false (sym (eq-eqb q 0 (sym (eqb-true r.q q (and_parts (r.q == q) (r.cid == cid) at).0) ∙ none.0)) ∙ io))
-]
+-- The one command of a queue under an identifier is the caller's.
+abbrev IsIoAt : ℕ → ℕ → Record → Type 0
+IsIoAt q cid r = is_at q cid r ≡ true → (request : Request) × (r.work ≡ Io request)
 
-held-records : (n q cid : ℕ) (status : Status) (hints : Hints) (rs : List Record) → (q == 0) ≡ false → AllByRecursion (λ r. OwnsFit r.q r.work (pages_of r)) rs → AllByRecursion (IsRecord n) rs
+held-records : (n q cid : ℕ) (status : Status) (hints : Hints) (rs : List Record) → AllByRecursion (IsIoAt q cid) rs → AllByRecursion (IsRecord n) rs
     → AllByRecursion (IsRecord n) (with_record q cid (held status hints) rs)
-held-records n q cid status hints [] io owns all = tt
-held-records n q cid status hints (r ∷ rs) io owns all = (
-  cond_both (is_at q cid r) _ _ (IsRecord n) (λ at. held-fits n q cid status hints r io at owns.0 all.0) (λ _. all.0),
-  held-records n q cid status hints rs io owns.1 all.1,
+held-records n q cid status hints [] io all = tt
+held-records n q cid status hints (r ∷ rs) io all = (
+  cond_both (is_at q cid r) _ _ (IsRecord n) (λ at. held-as n status hints r (io.0 at) all.0) (λ _. all.0),
+  held-records n q cid status hints rs io.1 all.1,
 )
 
-io-queue : (t : Tables) → IsWhole t → (q cid : ℕ) (status : Status) (e : ComEntry) → EndsIo t q cid status e → (q == 0) ≡ false
-io-queue t w q cid status e io =
-    let owns = found_all (λ (r : Record). OwnsFit r.q r.work (pages_of r)) (is_at q cid) t.records io.entry io.was w.host.sound.works_fit in
-    let at = and_parts (io.entry.q == q) (io.entry.cid == cid) (found_is (is_at q cid) t.records io.entry io.was) in
-    subst (λ (k : ℕ). (k == 0) ≡ false) (eqb-true io.entry.q q at.0) (subst (λ (v : Work). OwnsFit io.entry.q v (pages_of io.entry)) io.work owns)
+io-there : (t : Tables) → IsWhole t → (q : ℕ) (e : ComEntry) → EndsIo t q e → AllByRecursion (IsIoAt q e.cid) t.records
+io-there t w q e io = all-slots (IsIoAt q e.cid) t.records (λ i r here at.
+    let same : r ≡ io.entry = some_is (sym (only-found q e.cid t.records i r here at (once_of t w.host q e.cid)) ∙ io.was) in
+    (io.request, ap (λ (x : Record). x.work) same ∙ io.work))
 
-pub done-settled : (t : Tables) → IsWhole t → (q cid : ℕ) (status : Status) (x : Queue) (e : ComEntry) → Sees t q x e → EndsIo t q cid status e → e.sqhd < x.host.entries → Settled
-    (ended_with q e.sqhd cid status e.hints t)
-done-settled t w q cid status x e sees io below =
+pub done-settled : (t : Tables) → IsWhole t → (q : ℕ) (x : Queue) (e : ComEntry) → Sees t q x e → EndsIo t q e → e.sqhd < x.host.entries → Settled
+    (ended_with q e.sqhd e.cid e.status e.hints t)
+done-settled t w q x e sees io below =
     let u : Tables = heard q e.sqhd t in
     let s : Settled u = settled-heard t w q x e sees below in
-    settled-with u u.pages u.owners u.queues (with_record q cid (held status e.hints) u.records) s
+    settled-with u u.pages u.owners u.queues (with_record q e.cid (held e.status e.hints) u.records) s
     (record {
       pool = s.pool;
       lent = s.lent;
       many = refl;
       queues = s.rings;
-      identifiers = marked-claims (held status e.hints) (marks-held status e.hints) u.records u.queues q cid s.table.identifiers;
-      owners = record { queues_told = s.table.owners.queues_told; commands_told = marked-tells (held status e.hints) (marks-held status e.hints) u.owners u.records q cid s.table.owners.commands_told };
-      records = held-records (length u.queues) q cid status e.hints u.records (io-queue t w q cid status e io) w.host.sound.works_fit s.table.records;
+      identifiers = marked-claims (held e.status e.hints) (marks-held e.status e.hints) u.records u.queues q e.cid s.table.identifiers;
+      owners = record {
+        queues_told = s.table.owners.queues_told;
+        commands_told = marked-tells (held e.status e.hints) (marks-held e.status e.hints) u.owners u.records q e.cid s.table.owners.commands_told;
+      };
+      records = held-records (length u.queues) q e.cid e.status e.hints u.records (io-there t w q e io) s.table.records;
     })
 
--- An admin command was reaped: what its end means, on the tables.
+-- One of the host's own was reaped: what its end means, on the tables.
 
 -- a queue whose half is being made, and that owns that half's pages
 pub record Makes (u : Tables) (k : ℕ) (half : Half) (state : HostState) : Type 0 where
@@ -221,7 +226,7 @@ pub record Makes (u : Tables) (k : ℕ) (half : Half) (state : HostState) : Type
   pub making : queue.state ≡ state
   pub owns : OwnsHalf u.owners (length u.pages) k half queue
 
--- What the end of an admin command leans on: a queue whose deletion it ends has both halves, and one of which it gives back a half owns that half's pages
+-- What the end of one of the host's own leans on: a queue whose deletion it ends has both halves, and one of which it gives back a half owns that half's pages
 abbrev pub Means : AdminKind → Tables → Type 0
 Means (Abort k cid) u = Unit {0}
 Means (DeleteSq k) u = (x : Queue) → slice_get u.queues k ≡ Some x → has_sq x.state ≡ true
@@ -357,14 +362,14 @@ meant-settled u (CreateCq k n base vector) status s m =
 meant-settled u (CreateSq k n base) status s m =
     cond_both (is_success status) _ _ Settled (λ _. settled-state u k Live s refl (making-has u k Submission m)) (λ _. settled-unmade u k s m)
 
--- An admin command is over
+-- One of the host's own is over
 
--- the completion is that of an admin command
+-- the completion is that of one of the host's own
 pub record EndsAdmin (t : Tables) (q : ℕ) (kind : AdminKind) (e : ComEntry) : Type 0 where
   pub entry : Record
   pub was : record_at (state_of t).host q e.cid ≡ Some entry
   pub work : entry.work ≡ Management kind
-  pub says : reaped_entry (state_of t) q e ≡ found.AdminDone e.cid e.status e.dw0
+  pub says : reaped_entry (state_of t) q e ≡ reaped_as q e
 
 pub settled-over : (t : Tables) → IsWhole t → (q : ℕ) (x : Queue) (e : ComEntry) (kind : AdminKind) → Sees t q x e → EndsAdmin t q kind e → e.sqhd < x.host.entries → Settled (over q e.sqhd e.cid t)
 settled-over t w q x e kind sees ends below =
@@ -385,7 +390,7 @@ settled-over t w q x e kind sees ends below =
       records = all-filter (IsRecord (length u.queues)) (λ (r : Record). not (is_at q e.cid r)) u.records s.table.records;
     })
 
--- what the end of an admin command leans on is there
+-- what the end of one of the host's own leans on is there
 
 -- what each queue has that hangs on its state and on its places alone
 each-over : (P : ℕ → Queue → Type 0) (q k cid : ℕ) (queues : List Queue) → ((j : ℕ) (y : Queue) → P j y → P j (with_completion_heard k y)) → ((j : ℕ) (y : Queue) → P j y → P j (without_claim cid y))
@@ -495,12 +500,13 @@ over-exact : (t : Tables) → IsWhole t → (q : ℕ) (e : ComEntry) → state_o
 over-exact t w q e = ap (λ (hs : List HostQueue). with_all (state_of t) hs (without_record q e.cid t.records)) (over-host t w q e.sqhd e.cid)
 
 admin-after : (t : Tables) (q : ℕ) (x : Queue) (e : ComEntry) (kind : AdminKind) → Sees t q x e → EndsAdmin t q kind e
-    → after_reap q (found.AdminDone e.cid e.status e.dw0) (state_of t) ≡ after_admin kind e.status (ended_state q e (state_of t))
+    → after_reap q (reaped_as q e) (state_of t) ≡ after_admin kind e.status (ended_state q e (state_of t))
 admin-after t q x e kind sees ends =
     let s : State = state_of t in
-    ap (λ (o : Option Record). option_map_or (λ r. option_map_or (λ y. a.after_work r.work q e.cid e.status y.hints (a.heard q y s)) (seen_entry s q) s) o s) ends.was
+    ends-alike s q e
+    ∙ (ap (λ (o : Option Record). option_map_or (λ r. option_map_or (λ y. a.after_work r.work q e.cid e.status y.hints (a.heard q y s)) (seen_entry s q) s) o s) ends.was
     ∙ (ap (λ (v : Work). option_map_or (λ y. a.after_work v q e.cid e.status y.hints (a.heard q y s)) (seen_entry s q) s) ends.work
-    ∙ ap (λ (o : Option ComEntry). option_map_or (λ y. after_admin kind e.status (a.on_records (without_record q e.cid) (a.heard q y s))) o s) sees.seen)
+    ∙ ap (λ (o : Option ComEntry). option_map_or (λ y. after_admin kind e.status (a.on_records (without_record q e.cid) (a.heard q y s))) o s) sees.seen))
 
 -- What is reaped
 
@@ -508,7 +514,7 @@ abbrev pub ended_admin : ℕ → AdminKind → ComEntry → Tables → Tables
 ended_admin q kind e t = meant kind e.status (over q e.sqhd e.cid t)
 
 pub admin-exact : (t : Tables) → IsWhole t → (q : ℕ) (x : Queue) (e : ComEntry) (kind : AdminKind) → Sees t q x e → EndsAdmin t q kind e
-    → Exactly (state_of t) (events.Reap q) (events.Reaps (found.AdminDone e.cid e.status e.dw0)) (state_of (ended_admin q kind e t))
+    → Exactly (state_of t) (events.Reap q) (events.Reaps (reaped_as q e)) (state_of (ended_admin q kind e t))
 admin-exact t w q x e kind sees ends = (
   reap-none t q x sees.at sees.live,
   sym (reaped-told (state_of t) q e sees.seen ∙ ends.says),

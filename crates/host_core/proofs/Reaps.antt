@@ -9,14 +9,14 @@ use Rattle.std.proofs.Common.{is_some, is_none, ◌&&◌, ◌≡◌, ℕ, ◌<�
 use Rattle.std.{proofs.lemmas.{Bool.{not-false, true≢false, and_parts, and_right, cond_both, false_from_ne_true}, List.length-map}, specs.List.{AllByRecursion}}
 use Rattle.std.specs.Option.{option_map_or}
 use Rattle.admin_commands.specs.declared.AdminKind.{AdminKind, TheVariants.{Abort, DeleteSq, DeleteCq, CreateCq, CreateSq}}
-use Rattle.entry_codec.specs.{Status.is_success, declared.{completion.ComEntry.ComEntry, status.{Status.Status, TheConstants.Status.ABORTED_SQ_DELETION}}}
+use Rattle.entry_codec.specs.{Status.is_success, declared.{completion.ComEntry.ComEntry, status.Status.Status}}
 use Rattle.io_commands.specs.Asked.{Request}
 use Rattle.machine_model.{proofs.Kept.{sq_with_cq, deleted_has_sq}, specs.{After.{change, held, after_retire, lost}, Claims.OwnsFit}}
 use Rattle.machine_model.specs.Refusals.{refusal_of, has_cq_alone, is_submitted, is_reaped, host_queue, is_deleted, is_live, has_cq}
 use Rattle.machine_model.specs.State.{HostQueue, Record, is_at, with_record, without_record, State, pages_of}
-use Rattle.machine_model.specs.{Step.{fits_ring, reaped_as, reaped_entry, submitted_at, Step}, Work.Work, declared.words.HostState.HostState}
+use Rattle.machine_model.specs.{Step.{fits_ring, reaped_as, reaped_entry, submitted_at, Step}, Work.Work, declared.words.{HostState.HostState, Peer.Peer}}
 use Rattle.machine_model.specs.declared.words.{HostState.TheVariants.{Live, Gone, HalfMade, Retired}, Phase.Phase, Work.TheVariants.{Io, Management}}
-use Rattle.machine_model.specs.declared.words.{Phase.TheVariants.{Submitted, Held}, Refusal.Refusal, RejectedFor.RejectedFor}
+use Rattle.machine_model.specs.declared.words.{Phase.TheVariants.Submitted, Refusal.Refusal, RejectedFor.RejectedFor}
 use Rattle.queue_pair.{proofs.Rings.in_range_below, specs.Slots.is_in_range}
 use Rattle.host_core.proofs.{Granting.in_state-is, Lists.{each-change, length-change, any-map}, RowRecords.claims-same}
 use Rattle.host_core.proofs.PageOwners.{commands-told, half-owned, half-there, others-told, owner-stays, given-free}
@@ -45,7 +45,7 @@ fits-at t w q x e at =
 
 after-tests : (t : Tables) → IsWhole t → (q : ℕ) (x : Queue) (e : ComEntry) → slice_get t.queues q ≡ Some x → (e.sqid == q) ≡ true
     → is_in_range x.host.entries x.host.ring.known_head x.host.ring.tail e.sqhd ≡ true
-    → reaped_entry (state_of t) q e ≡ option_map_or (λ r. reaped_as q e r.work) (submitted_at (state_of t) q e.cid) (found.Rejected rejected.UnknownId)
+    → reaped_entry (state_of t) q e ≡ option_map_or (λ r. reaped_as q e) (submitted_at (state_of t) q e.cid) (found.Rejected rejected.UnknownId)
 after-tests t w q x e at mine inside = rw (mine, fits-at t w q x e at, inside) refl
 
 pub reject-none : (t : Tables) → IsWhole t → (q : ℕ) (x : Queue) (e : ComEntry) → slice_get t.queues q ≡ Some x → (e.sqid == q) ≡ true
@@ -58,7 +58,7 @@ pub reject-phase : (t : Tables) → IsWhole t → (q : ℕ) (x : Queue) (e : Com
 reject-phase t w q x e r at mine inside was phase = after-tests t w q x e at mine inside ∙ rw (was, phase) refl
 
 pub answered-says : (t : Tables) → IsWhole t → (q : ℕ) (x : Queue) (e : ComEntry) (kind : Option AdminKind) → slice_get t.queues q ≡ Some x → (is : Answered t q e kind)
-    → reaped_entry (state_of t) q e ≡ reaped_as q e is.entry.work
+    → reaped_entry (state_of t) q e ≡ reaped_as q e
 answered-says t w q x e kind at is =
     after-tests t w q x e at (eq-eqb e.sqid q is.sqid) (is.head x at) ∙ rw (is.was, ap is_submitted is.submitted) refl
 
@@ -105,32 +105,21 @@ admin-work (Io request) kind h = cc
 admin-work (Management other) kind h = cc
 
 pub reaps-done : (t new : Tables) → IsWhole t → (q : ℕ) (e : ComEntry) → Looks t q (Some e) → (is : Answered t q e None)
-    → new ≡ ended_with q e.sqhd e.cid e.status e.hints t → ReapsTo t q (found.Done e.cid e.status) new
+    → new ≡ ended_with q e.sqhd e.cid e.status e.hints t → ReapsTo t q (reaped_as q e) new
 reaps-done t new w q e l is left =
     let io = io-work is.entry.work is.means in
-    let ends : EndsIo t q e.cid e.status e = record {
-      entry = is.entry;
-      request = io.0;
-      was = is.was;
-      work = io.1;
-      says = answered-says t w q l.queue e None l.at is ∙ ap (reaped_as q e) io.1;
-    } in
-    let made = steps t (ended_with q e.sqhd e.cid e.status e.hints t) (events.Reap q) (events.Reaps (found.Done e.cid e.status)) w refl tt
-    (done-exact t w q e.cid e.status l.queue e (sees t q e l) ends)
-    (done-settled t w q e.cid e.status l.queue e (sees t q e l) ends (head-below t q l.queue e None l.at is)) in
+    let ends : EndsIo t q e = record { entry = is.entry; request = io.0; was = is.was; work = io.1; says = answered-says t w q l.queue e None l.at is } in
+    let made = steps t (ended_with q e.sqhd e.cid e.status e.hints t) (events.Reap q) (events.Reaps (reaped_as q e)) w refl tt
+    (done-exact t w q l.queue e (sees t q e l) ends)
+    (done-settled t w q l.queue e (sees t q e l) ends (head-below t q l.queue e None l.at is)) in
     rw left (record { step = made.step; whole = made.whole })
 
 pub reaps-admin : (t new : Tables) → IsWhole t → (q : ℕ) (e : ComEntry) (kind : AdminKind) → Looks t q (Some e) → (is : Answered t q e (Some kind))
-    → new ≡ meant kind e.status (over q e.sqhd e.cid t) → ReapsTo t q (found.AdminDone e.cid e.status e.dw0) new
+    → new ≡ meant kind e.status (over q e.sqhd e.cid t) → ReapsTo t q (reaped_as q e) new
 reaps-admin t new w q e kind l is left =
     let work = admin-work is.entry.work kind is.means in
-    let ends : EndsAdmin t q kind e = record {
-      entry = is.entry;
-      was = is.was;
-      work = work;
-      says = answered-says t w q l.queue e (Some kind) l.at is ∙ ap (reaped_as q e) work;
-    } in
-    let made = steps t (ended_admin q kind e t) (events.Reap q) (events.Reaps (found.AdminDone e.cid e.status e.dw0)) w refl tt (admin-exact t w q l.queue e kind (sees t q e l) ends)
+    let ends : EndsAdmin t q kind e = record { entry = is.entry; was = is.was; work = work; says = answered-says t w q l.queue e (Some kind) l.at is } in
+    let made = steps t (ended_admin q kind e t) (events.Reap q) (events.Reaps (reaped_as q e)) w refl tt (admin-exact t w q l.queue e kind (sees t q e l) ends)
     (admin-settled t w q l.queue e kind (sees t q e l) ends (head-below t q l.queue e (Some kind) l.at is)) in
     rw left (record { step = made.step; whole = made.whole })
 
@@ -160,7 +149,7 @@ pub submitted-is : (p : Phase) → is_submitted p ≡ true → p ≡ Submitted
 submitted-is Submitted h = refl
 submitted-is p h = cc
 
--- what the end of an admin command gives back
+-- what the end of one of the host's own gives back
 pub gives-meant : (t new : Tables) (kind : AdminKind) (k : ℕ) (status : Status) → kind ≡ DeleteCq k → is_success status ≡ true → passes has_cq_alone (state_at t.queues k) ≡ true
     → new ≡ without_completion k t → new ≡ meant kind status t
 gives-meant t new kind k status e s r is = rw (is, e, s, r) refl
@@ -222,7 +211,7 @@ retired-state t w q x r =
     (sym (host-at t q x r.at)))
   where
     with_free : List ℕ → List HostQueue → State
-    with_free free hs = record (state_of t) { host = record { block_sizes = t.block_sizes; free = free; queues = hs; records = map (lost q) t.records } }
+    with_free free hs = record (state_of t) { host = record { peer = t.peer; free = free; queues = hs; records = map (lost q) t.records } }
 
 retire-none : (t : Tables) (q : ℕ) (x : Queue) → Retires t q x → refusal_of (state_of t) (events.Retire q) ≡ None
 retire-none t q x r = rw (r.drained, host-at t q x r.at, r.deleted) refl
@@ -244,22 +233,22 @@ lost-told owners q r h = cond_both (is_lost q r) _ _ (TellsCommand owners) (λ _
 lost-claims : (q : ℕ) (records : List Record) (p : ℕ) (claimed : List Bool) → ClaimsIdentifiers records p claimed → ClaimsIdentifiers (map (lost q) records) p claimed
 lost-claims q records p claimed = claims-same records (map (lost q) records) p claimed (λ i. any-map (is_at p i) (lost q) (lost-at q p i) records)
 
--- what is lost is an I/O command
-lost-fits : (n q : ℕ) (r : Record) → (q == 0) ≡ false → OwnsFit r.q r.work (pages_of r) → IsRecord n r → IsRecord n (lost q r)
-lost-fits n q r io owns fits = cond_both (is_lost q r) _ _ (IsRecord n) held (λ _. fits)
+-- what is lost is a command of the caller's
+lost-fits : (peer : Peer) (n q : ℕ) (r : Record) → (q == 0) ≡ false → OwnsFit peer r.q r.work (pages_of r) → IsRecord n r → IsRecord n (lost q r)
+lost-fits peer n q r io owns fits = cond_both (is_lost q r) _ _ (IsRecord n) held (λ _. fits)
   where
     held : is_lost q r ≡ true → IsRecord n (a.aborted r)
     held e = elim (work-cases r.work) [
       | inl is ↦ held-lost n r is fits
       | inr (kind, is) ↦
-          let none : OwnsFit r.q (Management kind) (pages_of r) = subst (λ (v : Work). OwnsFit r.q v (pages_of r)) is owns in
+          let none : OwnsFit peer r.q (Management kind) (pages_of r) = subst (λ (v : Work). OwnsFit peer r.q v (pages_of r)) is owns in
           absurd (true≢false (sym (eq-eqb q 0 (sym (eqb-true r.q q (and_parts (r.q == q) (is_submitted r.phase) e).0) ∙ none.0)) ∙ io))
     ]
 
-lost-records : (n q : ℕ) (records : List Record) → (q == 0) ≡ false → AllByRecursion (λ r. OwnsFit r.q r.work (pages_of r)) records → AllByRecursion (IsRecord n) records
+lost-records : (peer : Peer) (n q : ℕ) (records : List Record) → (q == 0) ≡ false → AllByRecursion (λ r. OwnsFit peer r.q r.work (pages_of r)) records → AllByRecursion (IsRecord n) records
     → AllByRecursion (IsRecord n) (map (lost q) records)
-lost-records n q [] io owns all = tt
-lost-records n q (r ∷ records) io owns all = (lost-fits n q r io owns.0 all.0, lost-records n q records io owns.1 all.1)
+lost-records peer n q [] io owns all = tt
+lost-records peer n q (r ∷ records) io owns all = (lost-fits peer n q r io owns.0 all.0, lost-records peer n q records io owns.1 all.1)
 
 -- queue 0 is live
 not-admin : (t : Tables) → IsWhole t → (q : ℕ) (x : Queue) → Retires t q x → (q == 0) ≡ false
@@ -300,7 +289,7 @@ settled-retired t w q x r =
       others = λ j y far at. others-told t.owners q j Submission y far (s.table.owners.queues_told j y at);
       own = λ y at. retired-told t.owners q y (live y at) (s.table.owners.queues_told q y at);
       commands = all-map (TellsCommand owners) (lost q) (λ y h. lost-told owners q y h) t.records (commands-told t.owners q Submission t.records s.table.owners.commands_told);
-      records = lost-records (length t.queues) q t.records (not-admin t w q x r) w.host.sound.works_fit s.table.records;
+      records = lost-records t.peer (length t.queues) q t.records (not-admin t w q x r) w.host.sound.works_fit s.table.records;
     })
 
 -- As the code tells it

@@ -8,23 +8,23 @@ use Rattle.std.proofs.lemmas.Bool.{true≢false, false_from_ne_true, cases_Bool,
 use Rattle.std.{proofs.lemmas.{List.{map-append, length-map}, Option.{slice_get_within, slice_get-map}, Bool.Decides.nat_tests}, specs.List.AllByRecursion}
 use Rattle.std.specs.{Option.{option_map_or, option_map}, Prelude.Option}
 use Rattle.machine_model.proofs.{Owned.{all_reset, lost_by}, Steps.length-with_pages, TokensKept.live_is, Headline.steps_keep}
-use Rattle.machine_model.specs.{After.{admin_pages, change, after_reset, is_of_io, lost_anywhere, reset_records}, Claims.IsSound}
-use Rattle.machine_model.specs.{Memory.{with_pages, zeroed_pages}, Refusals.is_live, State.{HostQueue, Record, State, is_at}, Step.Step}
+use Rattle.machine_model.specs.{After.{admin_pages, change, after_reset, is_of_io, reset_records}, Claims.IsSound}
+use Rattle.machine_model.specs.{Memory.{with_pages, zeroed_pages}, Refusals.is_live, State.{HostQueue, Record, State}, Step.Step}
 use Rattle.machine_model.specs.declared.words.{HostState.{HostState, TheVariants.Live}}
 use Rattle.page_ledger.specs.{Lists.ListsAll, Owners.{is_among, owner_at, pages_from, given_back, is_half, is_owned_at, is_queue, is_same_half}}
 use Rattle.page_ledger.specs.declared.owner.Owner.{Owner, TheVariants.{Free, Queue as OwnerQueue, Command}}
 use Rattle.page_memory.specs.{Pages.{Pages, zero_page}, declared.page.Half.{Half, TheVariants.{Submission, Completion}}}
 use Rattle.queue_pair.specs.{Memory.half_pages, Rings.first_page_of}
 use Rattle.host_core.proofs.Identifiers.{sound-of, lent-of, Settled, settled-of, whole-of, queue-here, alone_sound, over_pages, places-of}
-use Rattle.host_core.proofs.Lists.{change-at-lists as change-at, get-at, length-change, map-agree}
-use Rattle.host_core.proofs.Making.{can-zero, some-pages, with-some, claims-none, made-queue, whole-zeros}
+use Rattle.host_core.proofs.Lists.{change-at-lists as change-at, each-change, get-at, length-change, map-agree}
+use Rattle.host_core.proofs.Making.{can-zero, some-pages, with-some, whole-zeros}
 use Rattle.host_core.proofs.PageOwners.{half-from, half-told, among-from, with-append, half-lists, half-standing, owner-stays, among-append, pool-with, given-free}
 use Rattle.host_core.proofs.QueueLists.{queue_page-in, host-at, none-told, settled-with}
-use Rattle.host_core.proofs.{Reaping.{held-lost, work-cases}, RowRecords.claims-same}
-use Rattle.host_core.specs.{Alone.{HostView, alone}, Commands.CanZero, Halves.{half_of, has_half}, Laws.shown}
-use Rattle.host_core.specs.Resetting.{admin_reset, with_admin_renewed, gone, gone_behind_first, is_of_io_queue, with_queue_gone, ListHalves, ListsHalf, tables_reset, with_records_reset, HasPlaces, IsPlaced}
+use Rattle.host_core.proofs.{Reaping.{held-lost, work-cases}, ResetRecords.{claims-of, claims-reset, length-freed}, RowRecords.claims_keep_queue}
+use Rattle.host_core.specs.{Alone.{HostView, alone}, Commands.{CanZero, claims_changed}, Halves.{half_of, has_half}, Laws.shown}
+use Rattle.host_core.specs.Resetting.{admin_reset, with_admin_renewed, gone, gone_behind_first, is_of_io_queue, with_queue_gone, ListHalves, ListsHalf, own_freed, tables_reset, with_records_reset, HasClaims, HasPlaces, IsPlaced}
 use Rattle.host_core.specs.{Rows.{Queue, Queue as RowsQueue}, Tables.{Tables, host_queue_of, sq_pages_of, cq_pages_of, state_of, view_of}}
-use Rattle.host_core.specs.Whole.{IsWhole, IsHost, ClaimsIdentifiers, IsQueue, IsRecord, TellsCommand, TellsQueue, is_outstanding}
+use Rattle.host_core.specs.Whole.{IsWhole, IsHost, ClaimIdentifiers, ClaimsIdentifiers, IsQueue, IsRecord, TellsCommand, TellsQueue}
 use Rattle.page_memory.proofs.Lists.{some_is}
 use Rattle.machine_model.proofs.Cases.{none_some}
 
@@ -281,27 +281,32 @@ not-first k = ne_eqb (suc k) 0 (λ e. cc)
 
 -- The queues
 
-abbrev queues_left : List RowsQueue → List RowsQueue
-queues_left queues = gone_behind_first (change 0 admin_reset queues)
+-- queue 0, where it keeps these of its claimed identifiers
+abbrev admin_left : (List Bool → List Bool) → RowsQueue → RowsQueue
+admin_left kept queue = claims_changed kept (admin_reset queue)
 
-each-left : (P : ℕ → RowsQueue → Type 0) (queues : List RowsQueue) → ((x : RowsQueue) → slice_get queues 0 ≡ Some x → P 0 (admin_reset x)) → ((k : ℕ) (x : RowsQueue) → slice_get queues (suc k) ≡ Some x → P (suc k) (gone x))
-    → (k : ℕ) (y : RowsQueue) → slice_get (queues_left queues) k ≡ Some y → P k y
-each-left P [] admin io k y at = absurd (none_some at)
-each-left P (x ∷ queues) admin io zero y at = subst (P 0) (some_is at) (admin x refl)
-each-left P (x ∷ queues) admin io (suc k) y at = rest (λ (n : ℕ) (z : RowsQueue). P (suc n) z) queues io k y at
+abbrev queues_left : (List Bool → List Bool) → List RowsQueue → List RowsQueue
+queues_left kept queues = gone_behind_first (change 0 (claims_changed kept) (change 0 admin_reset queues))
+
+each-left : (P : ℕ → RowsQueue → Type 0) (kept : List Bool → List Bool) (queues : List RowsQueue) → ((x : RowsQueue) → slice_get queues 0 ≡ Some x → P 0 (admin_left kept x))
+    → ((k : ℕ) (x : RowsQueue) → slice_get queues (suc k) ≡ Some x → P (suc k) (gone x)) → (k : ℕ) (y : RowsQueue) → slice_get (queues_left kept queues) k ≡ Some y → P k y
+each-left P kept [] admin io k y at = absurd (none_some at)
+each-left P kept (x ∷ queues) admin io zero y at = subst (P 0) (some_is at) (admin x refl)
+each-left P kept (x ∷ queues) admin io (suc k) y at = rest (λ (n : ℕ) (z : RowsQueue). P (suc n) z) queues io k y at
   where
     rest : (Q : ℕ → RowsQueue → Type 0) (queues : List RowsQueue) → ((k : ℕ) (x : RowsQueue) → slice_get queues k ≡ Some x → Q k (gone x)) → (k : ℕ) (y : RowsQueue) → slice_get (map gone queues) k ≡ Some y → Q k y
     rest Q [] io k y at = absurd (none_some at)
     rest Q (x ∷ queues) io zero y at = subst (Q 0) (some_is at) (io 0 x refl)
     rest Q (x ∷ queues) io (suc k) y at = rest (λ (n : ℕ) (z : RowsQueue). Q (suc n) z) queues (λ n z e. io (suc n) z e) k y at
 
-many-left : (queues : List RowsQueue) → length (queues_left queues) ≡ length queues
-many-left [] = refl
-many-left (x ∷ queues) = ap suc (length-map queues gone)
+many-left : (kept : List Bool → List Bool) (queues : List RowsQueue) → length (queues_left kept queues) ≡ length queues
+many-left kept [] = refl
+many-left kept (x ∷ queues) = ap suc (length-map queues gone)
 
-shown-left : (queues : List RowsQueue) → ((x : RowsQueue) → slice_get queues 0 ≡ Some x → x.state ≡ Live) → map host_queue_of (queues_left queues) ≡ a.reset_queues (map host_queue_of queues)
-shown-left [] live = refl
-shown-left (x ∷ queues) live = ap₂ (λ (state : HostState) (hs : List HostQueue). record (a.reset_admin (host_queue_of x)) { state = state } ∷ hs) (live x refl) (rest queues)
+shown-left : (kept : List Bool → List Bool) (queues : List RowsQueue) → ((x : RowsQueue) → slice_get queues 0 ≡ Some x → x.state ≡ Live)
+    → map host_queue_of (queues_left kept queues) ≡ a.reset_queues (map host_queue_of queues)
+shown-left kept [] live = refl
+shown-left kept (x ∷ queues) live = ap₂ (λ (state : HostState) (hs : List HostQueue). record (a.reset_admin (host_queue_of x)) { state = state } ∷ hs) (live x refl) (rest queues)
   where
     rest : (queues : List RowsQueue) → map host_queue_of (map gone queues) ≡ map (λ other. a.no_queue) (map host_queue_of queues)
     rest [] = refl
@@ -365,9 +370,9 @@ io-owned t w p l = elim (cases_Bool (is_among (a.io_pages (view_of t).host.queue
 
 pub view-reset : (t : Tables) → IsWhole t → view_of (tables_reset t) ≡ shown (after_reset (state_of t))
 view-reset t w =
-    ap₂ (λ (free : List ℕ) (queues : List HostQueue). record (view_of t) { host = record { block_sizes = t.block_sizes; free = free; queues = queues; records = reset_records t.records } })
+    ap₂ (λ (free : List ℕ) (queues : List HostQueue). record (view_of t) { host = record { peer = t.peer; free = free; queues = queues; records = reset_records t.records } })
     (given-free t.owners is_of_io_queue (length t.pages) (a.io_pages (view_of t).host.queues) (sym (lent-of t w)) (io-owned t w))
-    (shown-left t.queues (λ x at. admin-live t w x at))
+    (shown-left (own_freed t.records (t.entries - 1)) t.queues (λ x at. admin-live t w x at))
 
 -- The records
 
@@ -377,20 +382,17 @@ records-left n rs all = all_reset (IsRecord n) (IsRecord n) (λ r io fits. lost_
   | inr (kind, is) ↦ absurd (true≢false (sym io ∙ ap is_of_io is))
 ])) rs all
 
-lost-at : (q cid : ℕ) (r : Record) → is_at q cid (lost_anywhere r) ≡ is_at q cid r
-lost-at q cid r = lost_by (λ (x : Record). is_at q cid x ≡ is_at q cid r) r (λ e. refl) (λ e. refl)
+-- the claimed identifiers are those outstanding
 
--- the commands of an I/O queue stay outstanding, and none of queue 0 is
-outstanding-left : (entries queues : ℕ) (rs : List Record) → AllByRecursion (IsPlaced entries queues) rs → (q cid : ℕ) → (q == 0) ≡ false → is_outstanding (reset_records rs) q cid ≡ is_outstanding rs q cid
-outstanding-left entries queues [] all q cid io = refl
-outstanding-left entries queues (r ∷ rs) all q cid io = grind (arith, nat_tests, io, all.0.work, lost-at q cid r, outstanding-left entries queues rs all.1 q cid io)
+first-claims : (rs : List Record) (kept : List Bool → List Bool) (queues : List RowsQueue) → ClaimIdentifiers rs (change 0 (claims_changed kept) queues) → (x : RowsQueue) → slice_get queues 0 ≡ Some x
+    → ClaimsIdentifiers rs 0 (kept x.host.claimed)
+first-claims rs kept [] claims x at = absurd (none_some at)
+first-claims rs kept (y ∷ queues) claims x at = claims.each 0 (claims_changed kept x) (ap (λ (z : RowsQueue). Some (claims_changed kept z)) (some_is at))
 
-none-left : (entries queues : ℕ) (rs : List Record) → AllByRecursion (IsPlaced entries queues) rs → (cid : ℕ) → is_outstanding (reset_records rs) 0 cid ≡ false
-none-left entries queues [] all cid = refl
-none-left entries queues (r ∷ rs) all cid = grind (arith, nat_tests, all.0.work, lost-at 0 cid r, none-left entries queues rs all.1 cid)
-
-claims-left : (entries queues : ℕ) (rs : List Record) → AllByRecursion (IsPlaced entries queues) rs → (k : ℕ) (claimed : List Bool) → ClaimsIdentifiers rs (suc k) claimed → ClaimsIdentifiers (reset_records rs) (suc k) claimed
-claims-left entries queues rs all k claimed h = claims-same rs (reset_records rs) (suc k) claimed (λ cid. outstanding-left entries queues rs all (suc k) cid (not-first k)) h
+other-claims : (rs : List Record) (kept : List Bool → List Bool) (queues : List RowsQueue) → ClaimIdentifiers rs (change 0 (claims_changed kept) queues) → (k : ℕ) (x : RowsQueue)
+    → slice_get queues (suc k) ≡ Some x → ClaimsIdentifiers rs (suc k) x.host.claimed
+other-claims rs kept [] claims k x at = absurd (none_some at)
+other-claims rs kept (y ∷ queues) claims k x at = claims.each (suc k) x at
 
 commands-left : (owners : List Owner) (rs : List Record) → AllByRecursion (TellsCommand owners) rs → AllByRecursion (TellsCommand (given_back is_of_io_queue owners)) (reset_records rs)
 commands-left owners rs all = all_reset (TellsCommand owners) (TellsCommand (given_back is_of_io_queue owners)) (λ r io tells. lost_by (TellsCommand (given_back is_of_io_queue owners)) r (λ e. stays r tells) (λ e. let s = stays r tells in record { data_pages = s.data_pages; chain_pages = s.chain_pages })) rs all
@@ -409,7 +411,7 @@ gone-queue n q x is =
     record { number = is.number; entries = is.entries; host_side = record { least = is.host_side.least; most = is.host_side.most; head = some; known_head = some; tail = some; identifiers = is.host_side.identifiers } }
 
 admin-queue : (n q : ℕ) (x : RowsQueue) → IsQueue n q x → IsQueue n q (admin_reset x)
-admin-queue n q x is = let made = made-queue Submission x.host.sq n q x is in record { number = made.number; entries = made.entries; host_side = made.host_side }
+admin-queue n q x is = let made = gone-queue n q x is in record { number = made.number; entries = made.entries; host_side = made.host_side }
 
 -- The tables
 
@@ -417,20 +419,25 @@ settled-reset : (t : Tables) → IsWhole t → Settled (tables_reset t)
 settled-reset t w =
     let s = settled-of t w in
     let zeros = a.admin_pages (view_of t).host.queues in
-    let placed = (places-of t w.host).commands in
-    settled-with t (with_pages (zeroed_pages zeros) t.pages) (given_back is_of_io_queue t.owners) (queues_left t.queues) (reset_records t.records) s
+    let kept : List Bool → List Bool = own_freed t.records (t.entries - 1) in
+    let size : (bits : List Bool) → length (kept bits) ≡ length bits = length-freed t.records (t.entries - 1) in
+    let claims = claims-reset t w.host in
+    settled-with t (with_pages (zeroed_pages zeros) t.pages) (given_back is_of_io_queue t.owners) (queues_left kept t.queues) (reset_records t.records) s
     (record {
       pool = pool-with (zeroed_pages zeros) t.pages (whole-zeros zeros) s.pool;
       lent = length-map t.owners _ ∙ (s.lent ∙ sym (length-with_pages (zeroed_pages zeros) t.pages));
-      many = many-left t.queues;
-      queues = record { each = each-left (IsQueue t.entries) t.queues (λ x at. admin-queue t.entries 0 x (s.rings.each 0 x at)) (λ k x at. gone-queue t.entries (suc k) x (s.rings.each (suc k) x at)) };
+      many = many-left kept t.queues;
+      queues = record {
+        each = each-left (IsQueue t.entries) kept t.queues
+            (λ x at. claims_keep_queue kept size t.entries 0 (admin_reset x) (admin-queue t.entries 0 x (s.rings.each 0 x at)))
+            (λ k x at. gone-queue t.entries (suc k) x (s.rings.each (suc k) x at));
+      };
       identifiers = record {
-        each = each-left (λ (k : ℕ) (y : RowsQueue). ClaimsIdentifiers (reset_records t.records) k y.host.claimed) t.queues
-            (λ x at. claims-none (reset_records t.records) 0 (x.host.entries - 1) (none-left t.entries (length t.queues) t.records placed))
-            (λ k x at. claims-left t.entries (length t.queues) t.records placed k x.host.claimed (s.table.identifiers.each (suc k) x at));
+        each = each-left (λ (k : ℕ) (y : RowsQueue). ClaimsIdentifiers (reset_records t.records) k y.host.claimed) kept t.queues
+            (first-claims (reset_records t.records) kept t.queues claims) (other-claims (reset_records t.records) kept t.queues claims);
       };
       owners = record {
-        queues_told = each-left (TellsQueue (given_back is_of_io_queue t.owners)) t.queues
+        queues_told = each-left (TellsQueue (given_back is_of_io_queue t.owners)) kept t.queues
             (λ x at. let told = s.table.owners.queues_told 0 x at in record {
               submission = λ p h. owner-stays t.owners is_of_io_queue p _ refl (told.submission p h);
               completion = λ p h. owner-stays t.owners is_of_io_queue p _ refl (told.completion p h);
@@ -463,26 +470,39 @@ places-renewed t pages w =
       commands = subst (λ (n : ℕ). AllByRecursion (IsPlaced t.entries n) t.records) (sym many) h.commands;
     }
 
-half-renewed : (t : Tables) (records : List Record) (pages : Pages) (q : ℕ) (half : Half) → ListsHalf t q half → ListsHalf (record t { pages = pages; records = records; queues = change 0 admin_reset t.queues }) q half
-half-renewed t records pages q half h =
+pub claims-renewed : (t : Tables) (pages : Pages) → IsWhole t → HasClaims (over_pages (with_admin_renewed t) pages)
+claims-renewed t pages w =
+    let h = claims-of t w.host in
+    record {
+      some_queues = omega (arith, length-change 0 admin_reset t.queues, h.some_queues);
+      differ = h.differ;
+      claims = record {
+        each = each-change (λ q (queue : RowsQueue). ClaimsIdentifiers t.records q queue.host.claimed) 0 admin_reset t.queues (λ q x _ at. h.claims.each q x at) (λ x at. h.claims.each 0 x at);
+      };
+    }
+
+half-renewed : (t : Tables) (kept : List Bool → List Bool) (records : List Record) (pages : Pages) (q : ℕ) (half : Half) → ListsHalf t q half
+    → ListsHalf (record t { pages = pages; records = records; queues = change 0 (claims_changed kept) (change 0 admin_reset t.queues) }) q half
+half-renewed t kept records pages q half h =
     let x = go t.queues q h.at in record { queue = x.0; at = x.1; entries = x.3; lists = subst (λ (ps : List ℕ). ListsAll (is_half q half) t.owners ps) x.2 h.lists }
   where
-    same-half : (half : Half) (x : RowsQueue) → half_of half x ≡ half_of half (admin_reset x)
+    same-half : (half : Half) (x : RowsQueue) → half_of half x ≡ half_of half (admin_left kept x)
     same-half Submission x = refl
     same-half Completion x = refl
 
-    go : (queues : List RowsQueue) (k : ℕ) → slice_get queues k ≡ Some h.queue → (x : RowsQueue) × (slice_get (change 0 admin_reset queues) k ≡ Some x) ×
+    go : (queues : List RowsQueue) (k : ℕ) → slice_get queues k ≡ Some h.queue → (x : RowsQueue) × (slice_get (change 0 (claims_changed kept) (change 0 admin_reset queues)) k ≡ Some x) ×
         (half_of half h.queue ≡ half_of half x) × (x.host.entries ≡ t.entries)
     go [] k at = absurd (none_some at)
-    go (y ∷ queues) zero at = (admin_reset h.queue, ap (λ (z : RowsQueue). Some (admin_reset z)) (some_is at), same-half half h.queue, h.entries)
+    go (y ∷ queues) zero at = (admin_left kept h.queue, ap (λ (z : RowsQueue). Some (admin_left kept z)) (some_is at), same-half half h.queue, h.entries)
     go (y ∷ queues) (suc k) at = (h.queue, at, refl, h.entries)
 
 pub halves-renewed : (t : Tables) (pages : Pages) → IsWhole t → ListHalves (with_records_reset (over_pages (with_admin_renewed t) pages))
 halves-renewed t pages w =
     let h = list-halves t w.host in
-    let many = length-change 0 admin_reset t.queues in
+    let kept : List Bool → List Bool = own_freed t.records (t.entries - 1) in
+    let many = length-change 0 (claims_changed kept) (change 0 admin_reset t.queues) ∙ length-change 0 admin_reset t.queues in
     record {
       few_queues = subst (λ (n : ℕ). n ≤ 65) (sym many) h.few_queues;
       inside = λ p q half at. subst (λ (n : ℕ). q < n) (sym many) (h.inside p q half at);
-      each = λ q l half. half-renewed t (reset_records t.records) pages q half (h.each q (subst (λ (n : ℕ). q < n) many l) half);
+      each = λ q l half. half-renewed t kept (reset_records t.records) pages q half (h.each q (subst (λ (n : ℕ). q < n) many l) half);
     }

@@ -1,18 +1,18 @@
 -- Records, and what a change of one leaves.
 use Rattle.slot_table.specs.Rows as table
 use Rattle.page_ledger.specs.declared.owner.Owner.TheVariants as owner
-use Rattle.std.proofs.Common.{is_some, ◌≡◌, ℕ, ◌==◌, Bool, true, false, not, cond, Option, Some, None, IfSome, List, [], ◌∷◌, find, if◌then◌else◌, refl, ap, ap₂, sym, ◌∙◌, subst, eqb-true, option_map, ◌+◌, ◌-◌, ◌≤◌, nat_lt, ◌&&◌, filter, map, arith, lt-ltb, inl, inr, length, slice_get}
+use Rattle.std.proofs.Common.{is_some, ◌≡◌, ℕ, ◌==◌, Bool, true, Option, Some, None, IfSome, List, [], ◌∷◌, find, refl, ap, ap₂, sym, ◌∙◌, subst, eqb-true, option_map, ◌+◌, ◌-◌, arith, inl, inr, length, slice_get}
 use Rattle.std.{proofs.lemmas.Bool.{and_parts, cases_Bool, cond_both, Decides.nat_tests}, specs.List.AllByRecursion}
-use Rattle.machine_model.{proofs.{Owned.lost_by, Sound.changed}, specs.After.{is_of_io, lost, lost_anywhere, change}}
+use Rattle.machine_model.{proofs.Sound.changed, specs.After.change}
 use Rattle.machine_model.specs.State.{Record, is_at, with_record, without_record}
 use Rattle.slot_table.{specs.{Rows.{Row, value_at, without, with_value, NoneAt, IsDistinct}, Table.TableOf}, proofs.{Rows.without-none, Walks.none_stands}}
 use Rattle.host_core.{proofs.Lists.{any-map, each-change}, specs.Commands.claims_changed}
-use Rattle.host_core.specs.{Parts.{record_of, records_of, tables_of, Becomes}, Resetting.{HasPlaces, IsPlaced}, Rows.{RecordRow, Queue}, Tables.Tables}
+use Rattle.host_core.specs.{Parts.{record_of, records_of, tables_of, Becomes}, Rows.{RecordRow, Queue}, Tables.Tables}
 use Rattle.host_core.specs.{Whole.{ClaimIdentifiers, ClaimsIdentifiers, IsRecord, TellsCommand, is_outstanding, IsQueue, TellsQueue}, declared.tables.HostTables.HostTables}
 use Rattle.page_ledger.specs.{Owners.owner_at, declared.owner.Owner.Owner}
 use Rattle.page_memory.specs.{Pages.{Pages, page_at}, declared.page.Half.Half}
 use Rattle.slot_table.proofs.Rows.{option_is}
-use Rattle.page_memory.proofs.Lists.{some_is, all-map, all-filter}
+use Rattle.page_memory.proofs.Lists.{some_is, all-map}
 use Rattle.machine_model.proofs.Cases.{none_some}
 
 -- The rows of the table of records, as records.
@@ -96,84 +96,6 @@ pub taken-becomes : {A : Type 0} (parts : HostTables A) (q cid : ℕ) (o : Optio
 taken-becomes parts q cid o left at distinct is = λ pages.
     ap (λ (table : TableOf RecordRow). tables_of (record parts { records = table }) pages) is
     ∙ changed-rows parts (without parts.records.rows q cid) (without_record q cid) (taken-row parts.records.rows q cid o at distinct) pages
-
--- The records at a reset: the admin commands are forgotten, and the I/O commands lost queue by queue.
-
--- The admin commands, one identifier after the other
-
--- whether a record is kept once the identifiers of queue 0 below this one are forgotten
-abbrev pub is_kept : ℕ → Record → Bool
-is_kept n r = not ((r.q == 0) && nat_lt r.cid n)
-
-abbrev is_io : Record → Bool
-is_io r = is_of_io r.work
-
-pub none-forgotten : (rs : List Record) → rs ≡ filter (is_kept 0) rs
-none-forgotten [] = refl
-none-forgotten (r ∷ rs) = let kept : is_kept 0 r ≡ true = grind (arith, nat_tests) in rw kept (ap (λ (xs : List Record). r ∷ xs) (none-forgotten rs))
-
--- the next identifier
-next-kept : (n : ℕ) (r : Record) → (is_kept n r && not (is_at 0 n r)) ≡ is_kept (n + 1) r
-next-kept n r = grind (arith, nat_tests)
-
-pub one-forgotten : (n : ℕ) (rs : List Record) → without_record 0 n (filter (is_kept n) rs) ≡ filter (is_kept (n + 1)) rs
-one-forgotten n [] = refl
-one-forgotten n (r ∷ rs) = grind (arith, next-kept n r, one-forgotten n rs)
-
--- each identifier lies below the last
-pub all-forgotten : (entries queues n : ℕ) (rs : List Record) → AllByRecursion (IsPlaced entries queues) rs → entries - 1 ≤ n → filter (is_kept n) rs ≡ filter is_io rs
-all-forgotten entries queues n [] all size = refl
-all-forgotten entries queues n (r ∷ rs) all size =
-    let kept : is_kept n r ≡ is_io r = grind (arith, nat_tests, all.0.identifier, size) ∙ sym all.0.work in
-    ap₂ (λ (c : Bool) (xs : List Record). cond c (r ∷ xs) xs) kept (all-forgotten entries queues n rs all.1 size)
-
--- The I/O commands, one queue after the other
-
--- a record, lost if its queue is below this one
-abbrev pub lost_in : ℕ → Record → Record
-lost_in q r = if nat_lt r.q q then lost_anywhere r else r
-
--- those that are left are of I/O queues
-pub none-lost : (entries queues : ℕ) (rs : List Record) → AllByRecursion (IsPlaced entries queues) rs → filter is_io rs ≡ map (lost_in 1) (filter is_io rs)
-none-lost entries queues [] all = refl
-none-lost entries queues (r ∷ rs) all =
-    let stays : is_io r ≡ true → lost_in 1 r ≡ r = λ io. let above : nat_lt r.q 1 ≡ false = grind (arith, nat_tests, all.0.work, io) in rw above refl in
-    grind (arith, stays, none-lost entries queues rs all.1)
-
-next-lost : (q : ℕ) (r : Record) → lost q (lost_in q r) ≡ lost_in (q + 1) r
-next-lost q r = grind (arith, nat_tests)
-
-pub one-queue_lost : (q : ℕ) (rs : List Record) → map (lost q) (map (lost_in q) rs) ≡ map (lost_in (q + 1)) rs
-one-queue_lost q [] = refl
-one-queue_lost q (r ∷ rs) = ap₂ (λ (x : Record) (xs : List Record). x ∷ xs) (next-lost q r) (one-queue_lost q rs)
-
--- each queue lies below the last
-pub all-queues_lost : (entries queues q : ℕ) (rs : List Record) → AllByRecursion (IsPlaced entries queues) rs → queues ≤ q → map (lost_in q) rs ≡ map lost_anywhere rs
-all-queues_lost entries queues q [] all size = refl
-all-queues_lost entries queues q (r ∷ rs) all size =
-    let below : nat_lt r.q q ≡ true = lt-ltb r.q q (omega (arith, all.0.queue, size)) in rw below
-    (ap (λ (xs : List Record). lost_anywhere r ∷ xs) (all-queues_lost entries queues q rs all.1 size))
-
--- Each command stays in its place.
-
-abbrev pub with_records : Tables → List Record → Tables
-with_records t rs = record t { records = rs }
-
-place-kept : (entries queues q : ℕ) (r : Record) → IsPlaced entries queues r → IsPlaced entries queues (lost_in q r)
-place-kept entries queues q r h =
-    cond_both (nat_lt r.q q) _ _ (IsPlaced entries queues) (λ _. lost_by (IsPlaced entries queues) r (λ e. h) (λ e. record { queue = h.queue; identifier = h.identifier; work = h.work }))
-    (λ _. h)
-
-pub io_placed : (entries queues : ℕ) (rs : List Record) → AllByRecursion (IsPlaced entries queues) rs → AllByRecursion (IsPlaced entries queues) (filter is_io rs)
-io_placed entries queues rs all = all-filter (IsPlaced entries queues) is_io rs all
-
-pub places-lost : (t : Tables) → HasPlaces t → (q : ℕ) → HasPlaces (with_records t (map (lost_in q) (filter is_io t.records)))
-places-lost t h q =
-    record {
-      some_entries = h.some_entries;
-      few_queues = h.few_queues;
-      commands = all-map (IsPlaced t.entries _) (lost_in q) (λ r p. place-kept t.entries _ q r p) (filter is_io t.records) (all-filter (IsPlaced t.entries _) is_io t.records h.commands);
-    }
 
 -- A record that is marked: what holds of the records holds as before.
 

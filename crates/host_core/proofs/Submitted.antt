@@ -7,10 +7,10 @@ use Rattle.std.proofs.lemmas.{Bool.{true≢false, false_from_ne_true}, Option.{s
 use Rattle.std.specs.{List.AllByRecursion, Option.{option_map_or, option_map}}
 use Rattle.entry_codec.specs.{Submission.{submission_bytes, FitsSubmission}, declared.submission.SubEntry.SubEntry}
 use Rattle.sgl_descriptor.specs.Spelling.{spelling}
-use Rattle.io_commands.{proofs.{Building.carries_entry, Pointers.{length-pointer_of, psdt_fits}}, specs.{DataBytes.PagesOut, Drafts.{DraftContents, draft_first}, Requests.moves_data, Values.numbers_of}}
+use Rattle.io_commands.{proofs.{Building.carries_entry, Pointers.{length-pointer_of, psdt_fits}}, specs.{Asked.Request, DataBytes.PagesOut, Drafts.{DraftContents, admin_pointer, draft_first, entry_of}, Requests.moves_data, Values.numbers_of, declared.request.Kind.{Kind, TheVariants.Admin}}}
 use Rattle.sgl_chain.proofs.Spelled.{length-spelling}
 use Rattle.machine_model.proofs.{Counting.held_once, Kept.live_has_sq, Steps.{length-with_pages, first_fails, found_all}}
-use Rattle.machine_model.specs.{Memory.with_pages, Proper.IsProperDraft, After.{change, after_submit}, declared.words.Work.TheVariants.{Io, Management}}
+use Rattle.machine_model.specs.{Memory.with_pages, Proper.IsProperDraft, After.after_submit, declared.words.Work.TheVariants.{Io, Management}}
 use Rattle.machine_model.specs.Refusals.{refusal_of, is_drafted, is_of, is_live, in_state, queue_full, record_is, host_queue}
 use Rattle.machine_model.specs.{State.{State, Record, is_at, pages_of, with_record, HostQueue}, Step.{Refuses}, Work.Work}
 use Rattle.page_ledger.specs.{Owners.{is_among, owner_at}, declared.owner.Owner.TheVariants.{Queue as OfQueue, Command}}
@@ -55,9 +55,17 @@ are-pages d proper =
     all-from (λ (page : ℕ × List ℕ). length page.1 ≡ 4096) (d.data_pages ++ d.chain_pages) (joined-pages d.data_pages d.chain_pages proper.data_pages proper.chain_pages)
 
 -- its data pointer has sixteen bytes
+length-admin_pointer : (pages : List ℕ) → length (admin_pointer pages) ≡ 16
+length-admin_pointer [] = refl
+length-admin_pointer (page ∷ pages) = refl
+
+length-sgl1 : (kind : Kind) (cid : ℕ) (r : Request) (sgl1 pages : List ℕ) → length sgl1 ≡ 16 → length (entry_of kind cid r sgl1 pages).sgl1 ≡ 16
+length-sgl1 (Admin command) cid r sgl1 pages count = length-admin_pointer pages
+length-sgl1 kind cid r sgl1 pages count = length-pointer_of r.kind sgl1 count
+
 draft-sgl1 : (d : DraftContents) (entry : SubEntry) → IsProperDraft d → d.entry ≡ Some entry → length entry.sgl1 ≡ 16
 draft-sgl1 d entry proper built = ap (λ (e : SubEntry). length e.sgl1) (carries_entry d entry proper.draft built)
-    ∙ length-pointer_of d.request.kind (spelling (draft_first d)) (length-spelling (draft_first d))
+    ∙ length-sgl1 d.request.kind d.cid d.request (spelling (draft_first d)) (numbers_of d.data_pages) (length-spelling (draft_first d))
 
 -- the entry can be posted behind the pages
 pub can-post : (t : Tables) (d : DraftContents) (x : Queue) (entry : SubEntry) → IsWhole t → CanSubmit t d x entry → CanPost (brought_in d t) d.q x entry
@@ -158,9 +166,14 @@ full_is t queues q x at =
     ap (λ (n : ℕ). is_full n x.host.ring.known_head x.host.ring.tail) (queues.each q x at).entries
     ∙ ap (λ (o : Option HostQueue). option_map_or (λ queue. is_full t.entries queue.ring.known_head queue.ring.tail) o true) (sym seen)
 
+fits-entry_of : (kind : Kind) (cid : ℕ) (r : Request) (sgl1 pages : List ℕ) → FitsSubmission (entry_of kind cid r sgl1 pages)
+fits-entry_of (Admin command) cid r sgl1 pages = record { fuse = omega arith; psdt = omega arith }
+fits-entry_of kind cid r sgl1 pages = record { fuse = omega arith; psdt = psdt_fits (moves_data r.kind) }
+
 entry-fits : (d : DraftContents) (entry : SubEntry) → IsProperDraft d → d.entry ≡ Some entry → FitsSubmission entry
 entry-fits d entry proper built =
-    subst (λ (e : SubEntry). FitsSubmission e) (sym (carries_entry d entry proper.draft built)) (record { fuse = omega arith; psdt = psdt_fits (moves_data d.request.kind) })
+    subst (λ (e : SubEntry). FitsSubmission e) (sym (carries_entry d entry proper.draft built))
+    (fits-entry_of d.request.kind d.cid d.request (spelling (draft_first d)) (numbers_of d.data_pages))
 
 pub submit_ready : (t : Tables) (d : DraftContents) (entry : SubEntry) → IsWhole t → IsProperDraft d → BelongsToDraft t.records d → d.entry ≡ Some entry
     → passes is_live (state_at t.queues d.q) ≡ true → queue_full (state_of t) d.q ≡ false → IsReady t d entry

@@ -1,11 +1,11 @@
 -- What the calls about a command leave of the tables.
 use Rattle.std.specs.Option.{option_map, option_map_or}
-use Rattle.std.specs.Prelude.{◌≡◌, ℕ, ◌+◌, ◌<◌, ◌≤◌, ◌==◌, ◌||◌, not, Bool, true, false, Option, Some, None, IsSome, position, find, length, List, [], ◌∷◌, ◌++◌, slice_get, slice_set}
+use Rattle.std.specs.Prelude.{◌≡◌, ℕ, ◌+◌, ◌<◌, ◌≤◌, ◌==◌, ◌&&◌, ◌||◌, not, if◌then◌else◌, Bool, true, false, Option, Some, None, IsSome, position, find, length, List, [], ◌∷◌, ◌++◌, slice_get, slice_set}
 use Rattle.entry_codec.specs.declared.hints.TheConstants.Hints.{NONE}
-use Rattle.io_commands.specs.{Asked.Request, DataBytes.PagesOut, Drafts.DraftContents, Requests.data_count, Values.{numbers_of, IsGood}}
+use Rattle.io_commands.specs.{Asked.Request, DataBytes.PagesOut, Drafts.DraftContents, Requests.{data_count, is_admin}, Values.{numbers_of, IsGood}, declared.request.Kind.Kind}
 use Rattle.machine_model.specs.{After.{change, collected}, Claims.is_away, Memory.{without_pages, with_pages, zeroed_pages}}
-use Rattle.machine_model.specs.{Placement.{placed, without_numbers, chain_wanted}, Refusals.{refusal_of, is_drafted, is_collected, is_of, in_service}}
-use Rattle.machine_model.specs.{State.{Record, is_at, pages_of, with_record, without_record}, Step.IsNewIdentifier, declared.words.HostState.HostState}
+use Rattle.machine_model.specs.{Placement.{placed, without_numbers, chain_wanted}, Refusals.{refusal_of, is_drafted, is_collected, is_of, in_service, takes_admin}}
+use Rattle.machine_model.specs.{State.{Record, is_at, pages_of, with_record, without_record}, Step.IsNewIdentifier, declared.words.{HostState.HostState, Peer.Peer}}
 use Rattle.machine_model.specs.declared.words.{Phase.{Phase, TheVariants.Drafted}, Work.TheVariants.Io}
 use Rattle.page_ledger.specs.{Owners.{with_owner, given_back, is_command, free_pages}, declared.owner.Owner.{Owner, TheVariants.Command}}
 use Rattle.page_ledger.specs.declared.owner.Role.TheVariants.{Data, Chain}
@@ -87,6 +87,10 @@ passes test state = option_map_or test state false
 -- whether no I/O queue of this number, in this state, is in service
 abbrev pub takes_no_io : ℕ → Option HostState → Bool
 takes_no_io q state = (q == 0) || not (passes in_service state)
+
+-- whether a host that speaks to this peer has no queue of this number, in this state, for a command of this kind
+abbrev pub lacks : Peer → ℕ → Option HostState → Kind → Bool
+lacks peer q state kind = if is_admin kind then not (takes_admin peer && (q == 0)) else takes_no_io q state
 
 -- The identifier that a queue would claim next
 abbrev pub ClaimsNext : List Queue → ℕ → ℕ → Type 0

@@ -23,7 +23,7 @@ pub record HasHalf (t : Tables) (q : ℕ) (half : Half) : Type 0 where
   pub at : slice_get t.queues q ≡ Some queue
   pub lists : ListsAll (is_half q half) t.owners (pages_from (first_page_of half queue.host) (half_pages t.entries half))
 
--- Where the end of an admin command may give a half back, that half is there.
+-- Where the end of one of the host's own commands may give a half back, that half is there.
 abbrev pub HasMeant : AdminKind → Tables → Type 0
 HasMeant (Abort q cid) t = Unit {0}
 HasMeant (DeleteSq q) t = Unit {0}

@@ -1,6 +1,6 @@
 -- A host as it opens: the halves of its queues are its lowest pages, one queue's behind the other's, and all pages behind them are free.
 use Rattle.std.specs.Prelude.{◌≡◌, ◌⊎◌, ℕ, ◌+◌, ◌-◌, ◌*◌, ◌<◌, ◌≤◌, false, Option, Some, None, List, [], length, map, replicate}
-use Rattle.machine_model.specs.{Opening.{opening, open_refusal}, declared.words.{BlockSizes.BlockSizes, HostState.TheVariants.Live, OpenRefusal.{OpenRefusal, TheVariants.Memory}}}
+use Rattle.machine_model.specs.{Opening.{opening, open_refusal}, declared.words.{Peer.Peer, HostState.TheVariants.Live, OpenRefusal.{OpenRefusal, TheVariants.Memory}}}
 use Rattle.page_ledger.specs.{Owners.{is_free, is_owned_at, owner_at, pages_from}, declared.owner.Owner.Owner}
 use Rattle.page_memory.specs.{Pages.{Pages, zero_page}, declared.page.Half.TheVariants.{Submission, Completion}}
 use Rattle.queue_pair.specs.{Memory.half_pages, Rings.{fresh_host_ring, none_claimed}}
@@ -11,10 +11,10 @@ use Rattle.page_ledger.specs.declared.owner.Owner.TheVariants as owner
 abbrev pub refusal_of_config : Config → Option OpenRefusal
 refusal_of_config c = open_refusal c.pages c.queues c.entries c.segment
 
--- the host of the machine that it opens, but that it takes these sizes of blocks, and its pages
-abbrev pub opened_view : Config → BlockSizes → HostView
-opened_view c sizes =
-    record { entries = c.entries; segment = c.segment; host = record (opening c.pages c.queues c.entries c.segment []).host { block_sizes = sizes } }
+-- the host of the machine that it opens, but that it speaks to this peer, and its pages
+abbrev pub opened_view : Config → Peer → HostView
+opened_view c peer =
+    record { entries = c.entries; segment = c.segment; host = record (opening c.pages c.queues c.entries c.segment []).host { peer = peer } }
 
 abbrev pub opened_pages : Config → Pages
 opened_pages c = (opening c.pages c.queues c.entries c.segment []).memory
@@ -60,12 +60,12 @@ abbrev pub HalvesGranted : ℕ → ℕ → List Owner → Type 0
 HalvesGranted n count owners = AreGranted (half_pages n Submission) (half_pages n Completion) count owners
 
 -- the tables of a host as it opens
-abbrev pub opened : Config → BlockSizes → List Owner → Tables
-opened c sizes owners =
+abbrev pub opened : Config → Peer → List Owner → Tables
+opened c peer owners =
     record {
       entries = c.entries;
       segment = c.segment;
-      block_sizes = sizes;
+      peer = peer;
       pages = replicate c.pages (Some zero_page);
       owners = owners;
       record_queues = c.queues + 1;

@@ -28,7 +28,7 @@ tables_of parts pages =
     record {
       entries = parts.entries;
       segment = parts.segment;
-      block_sizes = parts.block_sizes;
+      peer = parts.peer;
       pages = pages;
       owners = parts.ledger;
       record_queues = parts.records.queues;

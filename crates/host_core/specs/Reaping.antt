@@ -42,11 +42,11 @@ with_completion_heard sqhd queue = with_head_known sqhd (with_completion_taken q
 abbrev pub heard : ℕ → ℕ → Tables → Tables
 heard q sqhd t = record t { queues = change q (with_completion_heard sqhd) t.queues }
 
--- and once how an I/O command ended, and what was hinted at, is held
+-- and once how a command of the caller's ended, and what was hinted at, is held
 abbrev pub ended_with : ℕ → ℕ → ℕ → Status → Hints → Tables → Tables
 ended_with q sqhd cid status hints t = record (heard q sqhd t) { records = with_record q cid (held status hints) t.records }
 
--- and once an admin command is over
+-- and once one of the host's own is over
 abbrev pub over : ℕ → ℕ → ℕ → Tables → Tables
 over q sqhd cid t = record t { queues = change q (without_claim cid) (heard q sqhd t).queues; records = without_record q cid t.records }
 
@@ -69,7 +69,7 @@ gives_back q status t = is_success status && passes has_cq_alone (state_at t.que
 abbrev pub without_submission : HostState → ℕ → Tables → Tables
 without_submission state q t = record t { owners = given_back (is_half q Submission) t.owners; queues = change q (with_state state) t.queues }
 
--- what the end of an admin command means for the queue that it names
+-- what the end of one of the host's own means for the queue that it names
 abbrev pub meant : AdminKind → Status → Tables → Tables
 meant (Abort q cid) status t = t
 meant (DeleteSq q) status t = record t { queues = change q (with_state (state_deleted status)) t.queues }
@@ -77,7 +77,7 @@ meant (DeleteCq q) status t = if gives_back q status t then without_completion q
 meant (CreateCq q n base vector) status t = if is_success status then record t { queues = change q (with_state HalfMade) t.queues } else without_completion q t
 meant (CreateSq q n base) status t = if is_success status then record t { queues = change q (with_state Live) t.queues } else without_submission HalfMade q t
 
--- the command of queue 0 that a command is
+-- the command that the host sent itself, if it is one
 abbrev pub kind_of : Work → Option AdminKind
 kind_of (Io request) = None
 kind_of (Management kind) = Some kind
@@ -96,8 +96,8 @@ abbrev pub FitsHead : List Queue → ℕ → ℕ → Type 0
 FitsHead queues q sqhd =
     (queue : Queue) → slice_get queues q ≡ Some queue → is_in_range queue.host.entries queue.host.ring.known_head queue.host.ring.tail sqhd ≡ true
 
--- The submitted command that a completion is for, and which command of queue 0 that is, if it is one. The completion names this queue, and a
--- head that fits.
+-- The submitted command that a completion is for, and which one of the host's own that is, if it is one. The completion names this queue, and
+-- a head that fits.
 pub record Answered (t : Tables) (q : ℕ) (e : ComEntry) (kind : Option AdminKind) : Type 0 where
   pub entry : Record
   pub was : find (is_at q e.cid) t.records ≡ Some entry

@@ -1,8 +1,7 @@
 -- What a device may do with which page now: with the rings of queues, and with what belongs to a submitted command.
 use Rattle.std.specs.Option.{option_map_or}
 use Rattle.std.specs.Prelude.{◌≡◌, ℕ, ◌+◌, ◌==◌, ◌≤◌, drop, Option, Some, None, option_map, List, [], ◌∷◌, ◌++◌, find, length, slice_get, suc, if◌then◌else◌}
-use Rattle.io_commands.specs.declared.request.Kind.{Kind}
-use Rattle.io_commands.specs.declared.request.Kind.TheVariants as kind
+use Rattle.io_commands.specs.{Requests.brings_data, declared.request.Kind.Kind}
 use Rattle.machine_model.specs.{Claims.claims_of, Refusals.is_submitted, State.{Host, HostQueue, Record, is_at, record_at}, Work.Work}
 use Rattle.machine_model.specs.declared.words.Work.TheVariants.{Io, Management}
 use Rattle.page_ledger.specs.declared.owner.{Owner.{Owner, TheVariants.{Free, Queue, Command}}, Role.{Role, TheVariants.{Data, Chain}}}
@@ -10,10 +9,9 @@ use Rattle.page_memory.specs.declared.page.Half.TheVariants.{Submission, Complet
 use Rattle.host_core.specs.declared.rights.{Right.Right, Run.Run, QueueMemory.QueueMemory}
 use Rattle.host_core.specs.declared.rights.Right.TheVariants as right
 
--- A Read's data is written, that of another command is read, and so is a command's chain.
+-- The data of a Read, and of an admin command that has data come, is written; that of another command is read, and so is a command's chain.
 abbrev pub right_of_data : Kind → Right
-right_of_data kind.Read = right.Write
-right_of_data k = right.Read
+right_of_data k = if brings_data k then right.Write else right.Read
 
 abbrev pub right_by_role : Kind → Role → Right
 right_by_role k Data = right_of_data k

@@ -1,6 +1,6 @@
 -- What a host keeps, as plain lists, with the pages that it is lent, and the machine that both stand for.
 use Rattle.std.specs.Prelude.{ℕ, List, [], map, if◌then◌else◌}
-use Rattle.machine_model.specs.{Refusals.{has_cq, has_sq}, State.{State, Record, HostQueue}, declared.words.BlockSizes.BlockSizes}
+use Rattle.machine_model.specs.{Refusals.{has_cq, has_sq}, State.{State, Record, HostQueue}, declared.words.Peer.Peer}
 use Rattle.page_ledger.specs.{Owners.{free_pages, pages_from}, declared.owner.Owner.Owner}
 use Rattle.page_memory.specs.{Pages.Pages, declared.page.Half.TheVariants.{Submission, Completion}}
 use Rattle.queue_pair.specs.Memory.{half_pages}
@@ -8,11 +8,11 @@ use Rattle.host_core.specs.{Alone.{HostView, alone}, Rows.Queue}
 
 -- the tables of a host: who owns each page, the outstanding commands, with how many queues they have places for and how many places of
 -- each, and the queues; beside them how many entries each ring and how many descriptors a full segment
--- has, which sizes of blocks the host takes, and the pages, in or out
+-- has, whom the host speaks to, and the pages, in or out
 pub record Tables : Type 0 where
   pub entries : ℕ
   pub segment : ℕ
-  pub block_sizes : BlockSizes
+  pub peer : Peer
   pub pages : Pages
   pub owners : List Owner
   pub record_queues : ℕ
@@ -38,7 +38,7 @@ view_of t =
     record {
       entries = t.entries;
       segment = t.segment;
-      host = record { block_sizes = t.block_sizes; free = free_pages t.owners; queues = map host_queue_of t.queues; records = t.records };
+      host = record { peer = t.peer; free = free_pages t.owners; queues = map host_queue_of t.queues; records = t.records };
     }
 
 -- the machine that the tables stand for

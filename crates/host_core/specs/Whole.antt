@@ -49,12 +49,12 @@ pub record OwnersTell (owners : List Owner) (queues : List Queue) (records : Lis
   pub queues_told : (q : ℕ) (queue : Queue) → slice_get queues q ≡ Some queue → TellsQueue owners q queue
   pub commands_told : AllByRecursion (TellsCommand owners) records
 
--- The request of an I/O command passed its check, and it has as many data pages as its pieces take.
+-- The request of a command of the caller's passed its check, and it has as many data pages as its pieces take.
 abbrev pub FitsWork : Work → Record → Type 0
 FitsWork (Io request) r = IsGood request × (length r.data_pages ≡ data_count request.pieces)
 FitsWork (Management kind) r = Unit {0}
 
--- What is held is an I/O command, and has its status.
+-- What is held is a command of the caller's, and has its status.
 abbrev pub FitsPhase : Phase → Work → Option Status → Type 0
 FitsPhase Drafted work status = Unit {0}
 FitsPhase Submitted work status = Unit {0}
@@ -92,7 +92,7 @@ pub record IsTable (count : ℕ) (ledger : List Owner) (rings : List Queue) (com
 pub record IsSoundTable (count : ℕ) (h : Host) : Type 0 where
   pub owners : HasOneOwner count h
   pub identifiers : IdentifiersDiffer h
-  pub works_fit : AllByRecursion (λ r. OwnsFit r.q r.work (pages_of r)) h.records
+  pub works_fit : AllByRecursion (λ r. OwnsFit h.peer r.q r.work (pages_of r)) h.records
   pub deletions : DeletionsFit h
   pub creations : CreationsFit h
   pub bare : NewQueuesAreBare h

@@ -5,7 +5,7 @@ use Rattle.entry_codec.specs.{Completion.completion_bytes, declared.{completion.
 use Rattle.entry_codec.specs.declared.hints.TheConstants.Hints.{NONE as no_hints}
 use Rattle.io_commands.specs.{Asked.Request, declared.request.{Kind.TheVariants.Read, Piece.TheVariants.Data, TheConstants.Flags.NONE}}
 use Rattle.io_commands.specs.declared.block_size.BlockSize.TheVariants.{Bytes512}
-use Rattle.machine_model.specs.{State.{HostQueue, Record}, declared.words.{BlockSizes.TheVariants.Any, HostState.TheVariants.Live, Phase.TheVariants.Submitted, Work.TheVariants.Io}}
+use Rattle.machine_model.specs.{State.{HostQueue, Record}, declared.words.{Peer.TheVariants.Device, HostState.TheVariants.Live, Phase.TheVariants.Submitted, Work.TheVariants.Io}}
 use Rattle.page_memory.specs.Pages.{Pages, with_page_bytes, zero_page}
 use Rattle.queue_pair.specs.Rings.{fresh_host_ring}
 use Rattle.host_core.specs.Alone.{HostView}
@@ -27,7 +27,7 @@ waiting =
     record {
       entries = 4;
       segment = 2;
-      host = record { block_sizes = Any; free = 5 ∷ 6 ∷ 7 ∷ []; queues = admin_queue ∷ io_queue ∷ []; records = read_command ∷ [] };
+      host = record { peer = Device; free = 5 ∷ 6 ∷ 7 ∷ []; queues = admin_queue ∷ io_queue ∷ []; records = read_command ∷ [] };
     }
 
 abbrev pub blank : Pages

@@ -51,7 +51,7 @@ pub use doorbell::Doorbell;
 pub use entry_codec::{Hints, Status};
 pub use host::Host;
 pub use io_commands::{BlockSize, FillFault, Flags, Kind, Piece, Pieces, Request, RequestFault};
-pub use machine_model::words::{BlockSizes, HostState, OpenRefusal, Reaped, Refusal, RejectedFor};
+pub use machine_model::words::{HostState, OpenRefusal, Peer, Reaped, Refusal, RejectedFor};
 pub use open::Opened;
 pub use page_ledger::{Counts, Owner, Role};
 pub use page_memory::{Half, PageNo, Unreadable};

@@ -17,7 +17,7 @@ use crate::queue::Queue;
 use crate::record::Record;
 use crate::spare::Spares;
 use crate::tables::HostTables;
-use machine_model::words::{BlockSizes, HostState, OpenRefusal};
+use machine_model::words::{HostState, OpenRefusal, Peer};
 use page_ledger::{Ledger, Owner};
 use page_memory::{Half, MAX_PAGES, OpenFault, PageNo, Store};
 use queue_pair::{HostPair, half_pages};
@@ -35,15 +35,15 @@ pub struct Opened<A: Allocator> {
 
 impl<A: Allocator + Copy> Host<A> {
     /// Opens a host, with its pages. Every page is in and zero, every queue is live with empty rings, and no command is outstanding.
-    /// It takes requests for blocks of these sizes.
+    /// It takes the requests that this peer can be asked.
     ///
     /// # Errors
     ///
     /// 1. `BadConfig` where a number lies outside its limits. 2. `NoPages` where the halves of all queues, those of queue 0 among
     /// them, need more pages than the pool has. 3. `Memory` where memory is refused.
-    pub fn open(alloc: A, config: Config, sizes: BlockSizes) -> Result<Opened<A>, OpenRefusal>
+    pub fn open(alloc: A, config: Config, peer: Peer) -> Result<Opened<A>, OpenRefusal>
         ensures fits { IfOk result (λ opened. refusal_of_config config ≡ None) }
-        ensures host { IfOk result (λ opened. opened.host ≡ opened_view config sizes) }
+        ensures host { IfOk result (λ opened. opened.host ≡ opened_view config peer) }
         ensures pages { IfOk result (λ opened. opened.store.pages ≡ opened_pages config) }
         ensures untouched { IfOk result (λ opened. IsUntouched opened.store) }
         ensures over { IfOk result (λ opened. IsOver opened.host opened.store.pages) }
@@ -64,7 +64,7 @@ impl<A: Allocator + Copy> Host<A> {
                         alloc,
                         entries: config.entries as u16,
                         segment: config.segment as u16,
-                        block_sizes: sizes,
+                        peer,
                         ledger,
                         records,
                         queues,

@@ -2,7 +2,7 @@
 
 ghost use Rattle.std.specs.Prelude.{◌≡◌, ◌<◌, [], true, false, Some, IfOk, IfErr, length, slice_get};
 ghost use Rattle.machine_model.specs.Events as events;
-ghost use Rattle.machine_model.specs.Step.{reaped_entry};
+ghost use Rattle.machine_model.specs.Step.{reaped_as, reaped_entry};
 ghost use Rattle.page_memory.specs.Pages.{Pages};
 ghost use Rattle.queue_pair.specs.Slots.{is_in_range};
 ghost use Rattle.host_core.specs.Alone.{HostStep, HostView, IsOver};
@@ -53,6 +53,23 @@ fn accept_completion<A: Allocator>(queue: &mut Queue<HostPair<A>>, sqhd: u16)
     queue.host.accept_head(sqhd).unwrap();
 }
 
+/// What the end of a command of a queue is told as.
+fn told(q: u16, entry: ComEntry) -> Reaped
+    ensures { result ≡ reaped_as q entry }
+{
+    let ComEntry {
+        cid,
+        status,
+        dw0,
+        ..
+    } = entry;
+    if q == 0 {
+        Reaped::AdminDone { cid, status, dw0 }
+    } else {
+        Reaped::Done { cid, status }
+    }
+}
+
 /// What the host knows of a queue once the deletion of its submission side has ended.
 fn deleted(status: Status) -> HostState
     ensures { result ≡ state_deleted status }
@@ -65,7 +82,8 @@ fn deleted(status: Status) -> HostState
 }
 
 impl<A: Allocator> HostTables<A> {
-    /// The command of queue 0 that a completion is for, if it is one; an error tells why it is for no command at all.
+    /// The command that the host sent itself and that a completion is for, if it is one; an error tells why it is for no command at
+    /// all.
     fn find_completed(&self, q: u16, entry: ComEntry) -> Result<Option<AdminKind>, RejectedFor>
         requires there { lacks_completion (slice_get self.now.queues.items q) ≡ false }
         ensures answered { IfOk result (λ kind. (pages : Pages) → Answered (tables_of self.now pages) q entry kind) }
@@ -114,7 +132,7 @@ impl<A: Allocator> HostTables<A> {
         self.hold(q, entry.cid, entry.status, entry.hints);
     }
 
-    /// Takes the completion of an admin command, and forgets the command.
+    /// Takes the completion of a command that the host sent itself, and forgets the command.
     fn end_command(&mut self, q: u16, entry: ComEntry)
         requires there { q < length self.old.queues.items }
         requires head { FitsHead self.old.queues.items q entry.sqhd }
@@ -139,7 +157,7 @@ impl<A: Allocator> HostTables<A> {
         note(&mut self.queues, q, HostState::Gone);
     }
 
-    /// Does what the end of an admin command means for the queue that it names.
+    /// Does what the end of such a command means for the queue that it names.
     fn apply(&mut self, kind: AdminKind, status: Status)
         requires { HasMeant kind (tables_of self.old []) }
         ensures { Becomes self.old (meant kind status) self.new }
@@ -178,23 +196,14 @@ impl<A: Allocator> HostTables<A> {
         ensures taken { (view : HostView) → head_rung view q result ≡ head_of view q }
         ensures many { length self.new.queues.items ≡ length self.old.queues.items }
     {
-        let ComEntry {
-            cid,
-            status,
-            dw0,
-            ..
-        } = entry;
         match kind {
-            None => {
-                self.hold_command(q, entry);
-                Reaped::Done { cid, status }
-            }
+            None => self.hold_command(q, entry),
             Some(kind) => {
                 self.end_command(q, entry);
-                self.apply(kind, status);
-                Reaped::AdminDone { cid, status, dw0 }
+                self.apply(kind, entry.status);
             }
         }
+        told(q, entry)
     }
 
     /// Decides whether the completion at a queue's head ends a command or is rejected.
@@ -221,10 +230,11 @@ impl<A: Allocator> Host<A> {
     ///
     /// What is found is `Empty` where there is none. A completion that names another queue, a submission head that does not lie from the known
     /// head to the tail, or no submitted command is `Rejected`: it is taken, and nothing else changes. Any other ends its command: `Done`
-    /// tells the identifier of an I/O command and how it ended, and its pages stay its own; `AdminDone` tells the same of a command of
-    /// queue 0, with its double word, and that command is over: a queue that it deletes or makes takes the state that this end means; the completion
-    /// half of a deleted completion queue that was left alone, and the half of a failed creation, are given back. The submission head that it
-    /// tells is known from then on, of an I/O command too. Where a completion was taken, the head is to be rung.
+    /// tells the identifier of an I/O command and how it ended, and `AdminDone` the same of a command of queue 0, with its double word. The
+    /// pages of a command of the caller's stay its own, and it is held until it is collected. One that the host sent itself is over: a queue
+    /// that it deletes or makes takes the state that this end means; the completion half of a deleted completion queue that was left alone,
+    /// and the half of a failed creation, are given back. The submission head that the completion of a command tells is known from then on.
+    /// Where a completion was taken, the head is to be rung.
     ///
     /// # Errors
     ///

@@ -62,7 +62,7 @@ impl<A: Allocator> Record<A> {
         }
     }
 
-    /// The command of queue 0 that it is.
+    /// The command that the host sent itself, if it is one.
     pub(crate) fn kind(&self) -> Option<AdminKind>
         ensures { result ≡ kind_of self.now.work }
     {

@@ -5,7 +5,7 @@ ghost use Rattle.machine_model.specs.Events as events;
 ghost use Rattle.machine_model.specs.Refusals.{takes as spec_takes};
 ghost use Rattle.machine_model.specs.Step.{Refuses};
 ghost use Rattle.host_core.specs.Alone.{HasPlacedPages, HostStep, IsLowest, IsOver};
-ghost use Rattle.host_core.specs.Commands.{first_placed, then_placed, reserved, Grants, new_draft};
+ghost use Rattle.host_core.specs.Commands.{first_placed, then_placed, lacks as spec_lacks, reserved, Grants, new_draft};
 ghost use Rattle.host_core.specs.Parts.{tables_of, Over};
 ghost use Rattle.host_core.specs.Replies.{reserve_reply};
 ghost use Rattle.host_core.specs.Tables.{state_of};
@@ -21,8 +21,8 @@ use crate::refused::Refused;
 use crate::spare::Spares;
 use crate::tables::HostTables;
 use entry_codec::Hints;
-use io_commands::{BlockSize, Draft, Request};
-use machine_model::words::{BlockSizes, Phase, Refusal, Work};
+use io_commands::{BlockSize, Draft, Kind, Request};
+use machine_model::words::{HostState, Peer, Phase, Refusal, Work};
 use page_ledger::NoPages;
 use page_memory::{Page, PageNo, Store};
 use std::alloc::{AllocError, Allocator};
@@ -61,13 +61,24 @@ fn make_room<A: Allocator + Copy>(
     })
 }
 
-/// Whether a host that takes these sizes of blocks takes blocks of this one.
-fn takes(sizes: BlockSizes, size: BlockSize) -> bool
-    ensures { result ≡ spec_takes sizes size }
+/// Whether a host that speaks to this peer takes blocks of this size.
+fn takes(peer: Peer, size: BlockSize) -> bool
+    ensures { result ≡ spec_takes peer size }
 {
-    match (sizes, size) {
-        (BlockSizes::Any, _) | (BlockSizes::Only512, BlockSize::Bytes512) => true,
-        (BlockSizes::Only512, _) => false,
+    match (peer, size) {
+        (Peer::Device, _) | (Peer::Modelled, BlockSize::Bytes512) => true,
+        (Peer::Modelled, _) => false,
+    }
+}
+
+/// Whether a host that speaks to this peer has no queue of this number, in this state, for a command of this kind.
+fn lacks_queue(peer: Peer, q: u16, state: Option<HostState>, kind: Kind) -> bool
+    ensures { result ≡ spec_lacks peer q state kind }
+{
+    if kind.is_admin() {
+        peer != Peer::Device || q != 0
+    } else {
+        takes_no_io(q, state)
     }
 }
 
@@ -79,7 +90,7 @@ impl<A: Allocator + Copy> HostTables<A> {
         ensures refused { IfErr result (λ why. Over self.now (λ t. Refuses (state_of t) (events.Reserve q request.now) why [])) }
     {
         let state = host_state(&self.queues, q);
-        if takes_no_io(q, state) {
+        if lacks_queue(self.peer, q, state, request.kind) {
             return Err(Refusal::NoQueue);
         }
         if is_deleting(state) {
@@ -89,7 +100,7 @@ impl<A: Allocator + Copy> HostTables<A> {
             Ok(()) => {}
             Err(fault) => return Err(Refusal::Bad(fault)),
         }
-        if !takes(self.block_sizes, request.block_size) {
+        if !takes(self.peer, request.block_size) {
             return Err(Refusal::OtherBlocks);
         }
         let Some(cid) = next_identifier(&self.queues, q) else {
@@ -160,11 +171,12 @@ impl<A: Allocator + Copy> Host<A> {
     ///
     /// # Errors
     ///
-    /// The request is handed back, and nothing changed. 1. `NoQueue` for queue 0, an unknown queue, and one whose submission half was
-    /// given back and is not made again. 2. `Deleting` where it is being deleted. 3. `Bad` for the first fault of the request.
-    /// 4. `OtherBlocks` where the host takes no blocks of the request's size. 5. `NoIdentifier` where each identifier of the queue is
-    /// outstanding. 6. `NoPages` where too few pages are free: `need` is what this placement takes, and where even the data has no room
-    /// the fewest pages that the request could take. 7. `Memory` where memory is refused.
+    /// The request is handed back, and nothing changed. 1. `NoQueue` for an admin command anywhere but on queue 0 of a host that speaks to
+    /// a device, and for another command on queue 0, an unknown queue, and one whose submission half was given back and is not made
+    /// again. 2. `Deleting` where the queue is being deleted. 3. `Bad` for the first fault of the request. 4. `OtherBlocks` where the
+    /// host takes no blocks of the request's size. 5. `NoIdentifier` where each identifier of the queue is outstanding. 6. `NoPages` where
+    /// too few pages are free: `need` is what this placement takes, and where even the data has no room the fewest pages that the request
+    /// could take. 7. `Memory` where memory is refused.
     pub fn reserve(
         &mut self,
         store: &mut Store<A>,

@@ -1,7 +1,6 @@
 //! The controller is reset: the host begins again with its admin queue alone.
 
-ghost use Rattle.std.specs.Prelude.{◌≡◌, ◌+◌, [], filter, map};
-ghost use Rattle.machine_model.specs.After.{is_of_io};
+ghost use Rattle.std.specs.Prelude.{◌≡◌, ◌+◌, ◌<◌, [], length, true};
 ghost use Rattle.machine_model.specs.Events as events;
 ghost use Rattle.page_ledger.specs.Owners.{given_back, is_half};
 ghost use Rattle.page_memory.specs.declared.page.Half.{Half as HalfValue};
@@ -9,14 +8,16 @@ ghost use Rattle.page_memory.specs.declared.page.Half.TheVariants.{Submission, C
 ghost use Rattle.queue_pair.specs.Memory.{half_pages as pages_of_half};
 ghost use Rattle.host_core.specs.Alone.{IsOver};
 ghost use Rattle.host_core.specs.Halves.{has_half as spec_has_half};
-ghost use Rattle.host_core.specs.Parts.{tables_of, Becomes};
-ghost use Rattle.host_core.specs.Resetting.{admin_reset, gone as spec_gone, host_reset, pages_reset, with_admin_renewed, with_io_queues_gone, with_queue_gone, with_records_reset, HasPlaces, ListHalves, ListsHalf};
+ghost use Rattle.host_core.specs.Commands.{Claims};
+ghost use Rattle.host_core.specs.Parts.{records_of, tables_of, Becomes};
+ghost use Rattle.host_core.specs.Resetting.{admin_reset, gone as spec_gone, has_own as spec_has_own, host_reset, pages_reset, with_admin_renewed, with_all_own_over, with_io_queues_gone, with_own_over, with_queue_gone, with_records_reset, HasClaims, HasPlaces, ListHalves, ListsHalf};
 ghost use Rattle.host_core.specs.Whole.{IsWhole};
 ghost use Rattle.host_core.specs.Touching.{HostTouches, TouchesBy};
 
 use crate::host::Host;
 use crate::moving::zero_run;
 use crate::queue::Queue;
+use crate::release::unclaim;
 use crate::tables::HostTables;
 use machine_model::words::HostState;
 use page_memory::{Half, Store};
@@ -39,13 +40,11 @@ pub(crate) fn has_half(state: HostState, half: Half) -> bool
     }
 }
 
-/// Leaves queue 0 as it opened, over the same halves.
+/// Leaves both rings of queue 0 as they opened, over the same halves.
 fn reset_admin<A: Allocator>(queue: &mut Queue<HostPair<A>>)
     ensures { queue.new ≡ admin_reset queue.old }
 {
-    let sq = queue.host.first_page(Half::Submission);
-    let cq = queue.host.first_page(Half::Completion);
-    queue.host.renew(sq, cq);
+    queue.host.restart();
 }
 
 /// Leaves an I/O queue gone.
@@ -57,7 +56,7 @@ fn lose<A: Allocator>(queue: &mut Queue<HostPair<A>>)
 }
 
 impl<A: Allocator> HostTables<A> {
-    /// Makes the pages of queue 0 zero, and leaves the queue as it opened.
+    /// Makes the pages of queue 0 zero, and leaves its rings as they opened.
     fn renew_admin(&mut self, store: &mut Store<A>)
         requires { IsWhole (tables_of self.old store.old.pages) }
         ensures renewed { tables_of self.new store.new.pages ≡ with_admin_renewed (tables_of self.old store.old.pages) }
@@ -70,23 +69,47 @@ impl<A: Allocator> HostTables<A> {
         reset_admin(&mut self.queues[0]);
     }
 
-    /// Forgets the admin commands.
-    fn forget_admin(&mut self)
-        requires { HasPlaces (tables_of self.old []) }
-        ensures { Becomes self.old (λ t. record t { records = filter (λ r. is_of_io r.work) t.records }) self.new }
+    /// Whether an identifier of queue 0 is that of a command that the host sent itself.
+    fn has_own(&self, cid: u16) -> bool
+        ensures { result ≡ spec_has_own (records_of self.now.records.rows) cid }
     {
-        for cid in 0..self.entries - 1 {
-            self.forget(0, cid);
+        match self.records.get(0, cid) {
+            Some(entry) => entry.kind().is_some(),
+            None => false,
         }
     }
 
-    /// Ends the admin commands, and the I/O commands that were submitted.
+    /// Forgets such a command, and frees its identifier.
+    fn forget_own(&mut self, cid: u16)
+        requires there { 0 < length self.old.queues.items }
+        requires claimed { spec_has_own (records_of self.old.records.rows) cid ≡ true → Claims self.old.queues.items 0 cid }
+        ensures { Becomes self.old (with_own_over cid) self.new }
+    {
+        if self.has_own(cid) {
+            self.forget(0, cid);
+            unclaim(&mut self.queues, 0, cid);
+        }
+    }
+
+    /// Forgets the commands that the host sent itself, and frees their identifiers.
+    fn forget_admin(&mut self)
+        requires places { HasPlaces (tables_of self.old []) }
+        requires claims { HasClaims (tables_of self.old []) }
+        ensures { Becomes self.old with_all_own_over self.new }
+    {
+        for cid in 0..self.entries - 1 {
+            self.forget_own(cid);
+        }
+    }
+
+    /// Ends the commands that the host sent itself, and those of the caller's that were submitted.
     fn reset_commands(&mut self)
-        requires { HasPlaces (tables_of self.old []) }
+        requires places { HasPlaces (tables_of self.old []) }
+        requires claims { HasClaims (tables_of self.old []) }
         ensures { Becomes self.old with_records_reset self.new }
     {
         self.forget_admin();
-        for q in 1..self.queues.len() as u16 {
+        for q in 0..self.queues.len() as u16 {
             self.lose_commands(q);
         }
     }
@@ -129,9 +152,9 @@ impl<A: Allocator> Host<A> {
     /// Begins again as the controller is reset (NVM Express Base Specification 2.0, "Controller Level Reset", section 3.7.2). It takes no
     /// memory, and looks at each identifier of each queue.
     ///
-    /// Each I/O command that was submitted is held with the status "Command Aborted due to SQ Deletion", and one that is drafted, held or
-    /// collected stays as it is; the admin commands are over. Each I/O queue is gone, and the pages of its halves are free. Queue 0 is as
-    /// it opened: the same pages, all zero, and both rings empty. Nothing is to be rung.
+    /// Each command of the caller's that was submitted is held with the status "Command Aborted due to SQ Deletion", and one that is drafted,
+    /// held or collected stays as it is; those that the host sent itself are over. Each I/O queue is gone, and the pages of its halves are
+    /// free. Queue 0 is as it opened: the same pages, all zero, and both rings empty. Nothing is to be rung.
     pub fn reset(&mut self, store: &mut Store<A>)
         requires { IsOver self.old store.old.pages }
         ensures host { self.new ≡ host_reset self.old store.old.pages }

@@ -54,9 +54,10 @@ pub struct QueueMemory {
 fn right_of(kind: Kind) -> Right
     ensures { result ≡ right_of_data kind }
 {
-    match kind {
-        Kind::Read => Right::Write,
-        _ => Right::Read,
+    if kind.brings_data() {
+        Right::Write
+    } else {
+        Right::Read
     }
 }
 
@@ -201,8 +202,9 @@ impl<A: Allocator> HostTables<A> {
 }
 
 impl<A: Allocator> Host<A> {
-    /// What a device may do with a page now: read the submission rings, and the chain and the data of each Write and Compare that is
-    /// submitted and not yet reaped; write the completion rings, and the data of each Read that is; and nothing else. Outside the pool nothing.
+    /// What a device may do with a page now: of each command that is submitted and not yet reaped read the chain, and write the data
+    /// where it brings data ([`Kind::brings_data`]) and else read it; read the submission rings, write the completion rings; and nothing
+    /// else. Outside the pool nothing.
     pub fn may(&self, p: PageNo) -> Right
         ensures { result ≡ right_at self.now.host p }
     {

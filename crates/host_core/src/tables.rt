@@ -2,7 +2,7 @@
 
 use crate::queue::Queue;
 use crate::record::Record;
-use machine_model::words::BlockSizes;
+use machine_model::words::Peer;
 use page_ledger::Ledger;
 use queue_pair::HostPair;
 use slot_table::SlotTable;
@@ -17,8 +17,8 @@ pub(crate) struct HostTables<A: Allocator> {
     pub(crate) entries: u16,
     /// The most descriptors of a segment.
     pub(crate) segment: u16,
-    /// Which sizes of blocks it takes.
-    pub(crate) block_sizes: BlockSizes,
+    /// Whom it speaks to.
+    pub(crate) peer: Peer,
     /// Who owns which page.
     pub(crate) ledger: Ledger<A>,
     /// The outstanding commands, in the order in which they were made.

@@ -1,6 +1,6 @@
 -- What building a draft rests on, and what its entry and pages say.
 use Rattle.sgl_descriptor.specs.declared.Part.TheVariants as part
-use Rattle.std.proofs.Common.{◌≡◌, ℕ, suc, List, [], ◌∷◌, refl, ap, length, arith, ◌≤◌, ◌<◌, ◌+◌, ◌*◌, zero, ◌++◌, Some, None, subst, ◌∙◌, take, drop, length-append, Option, sym, ◌-◌, ◌^◌, ◌%◌, Bool, true, false, nat_le, nat_lt, ◌==◌, ◌||◌, not, replicate, true≢false, All, if◌then◌else◌}
+use Rattle.std.proofs.Common.{◌≡◌, ℕ, suc, List, [], ◌∷◌, refl, ap, eqb-true, length, arith, ◌≤◌, ◌<◌, ◌+◌, ◌*◌, zero, ◌++◌, Some, None, subst, ◌∙◌, take, drop, length-append, Option, sym, ◌-◌, ◌^◌, ◌%◌, Bool, true, false, nat_le, nat_lt, ◌==◌, ◌||◌, not, replicate, true≢false, All, if◌then◌else◌}
 use Rattle.std.proofs.{Math.Seq.{take-append_seam, drop-append_seam}, lemmas.{Bool.Decides.nat_tests, Grind.common_steps}}
 use Rattle.std.proofs.lemmas.List.{length-map, length-drop, length-take-le, get_or_append_left, length-take, Elements.{All-head, All-tail, All-nil, All-cons}, Sums.sum_by-cons}
 use Rattle.sgl_descriptor.specs.{Spelling.Fits, Targets.descriptor_of_part, declared.{Descriptor.Descriptor, Part.Part}}
@@ -8,8 +8,12 @@ use Rattle.sgl_chain.{proofs.Joins.{joined_few, joined_from, from_list}, specs.C
 use Rattle.sgl_chain.specs.{Joining.{joined, joins, both}, Laws.LaidChainsSpell, Spells.{Holds, IsLaid, SpellsWhereLaid}}
 use Rattle.page_memory.specs.{Memory.Memory, Pages.with_bytes}
 use Rattle.io_commands.specs.{Asked.Request, DataBytes.{PagesOut, filled}}
-use Rattle.io_commands.specs.Drafts.{laid, io_entry, DraftContents, IsDraft, built, draft_segments, draft_parts, draft_first, draft_entry, HoldsPages, SpellsItsParts, IsBuiltIfAny, IsBuilt, DraftsCarryTheirEntry, BuiltDraftsSpell}
-use Rattle.io_commands.specs.{BlockSizes.{block_bytes, most_blocks}, declared.block_size.BlockSize.{BlockSize, TheVariants.{Bytes512, Bytes1024, Bytes2048, Bytes4096}}, Jobs.block_number, Requests.{fault_of, flag_bits, moves_data, names_blocks, need_of, is_count, is_empty_piece, counted_length, counted_lengths, data_count, parts_of, joined_parts, FitsPiece}, Values.{numbers_of, IsGood}, declared.request.{Flags.Flags, Kind.{Kind, TheVariants.{Read, Write, Compare, WriteZeroes, Verify, Flush}}}}
+use Rattle.io_commands.specs.Drafts.{laid, caller_entry, entry_of, io_entry, DraftContents, IsDraft, built, draft_segments, draft_parts, draft_first, draft_entry, HoldsPages, SpellsItsParts, IsBuiltIfAny, IsBuilt, DraftsCarryTheirEntry, BuiltDraftsSpell}
+use Rattle.io_commands.specs.{Admin.has_its_page, BlockSizes.{block_bytes, most_blocks}, declared.block_size.BlockSize.{BlockSize, TheVariants.{Bytes512, Bytes1024, Bytes2048, Bytes4096}}, Jobs.block_number, Requests.{crosses_page, fault_of, flag_bits, has_its_bytes, is_admin, is_hosts_own, moves_data, names_blocks, need_of, is_count, is_empty_piece, counted_length, counted_lengths, data_count, parts_of, joined_parts, FitsPiece}, Values.{numbers_of, IsGood}, declared.request.{Flags.Flags, Kind.{Kind, TheVariants.{Read, Write, Compare, WriteZeroes, Verify, Flush, Admin}}, RequestFault.{RequestFault, TheVariants.{TooManyPieces, EmptyPiece, CrossesPage, BadCount, LengthMismatch, HostsOwn}}}}
+use Rattle.io_commands.specs.declared.admin.{AdminCommand.AdminCommand, PageUse.PageUse}
+use Rattle.controller_walk.specs.Units.{first_passing}
+use Rattle.sgl_descriptor.specs.Spelling.{spelling}
+use Rattle.std.specs.List.{list_any}
 use Rattle.io_commands.specs.declared.request.Piece.{Piece, TheVariants.{Data, Bucket}}
 use Rattle.entry_codec.specs.declared.submission.SubEntry.{SubEntry}
 
@@ -42,8 +46,38 @@ length-laid (s ∷ segments) (page ∷ pages) same = ap suc (length-laid segment
 pub has_count : (kind : Kind) (size : BlockSize) (blocks : ℕ) (pieces : List Piece) → fault_of kind size blocks pieces ≡ None → is_count kind size blocks ≡ true
 has_count kind size blocks pieces h = grind (arith, nat_tests)
 
-pub counted : (kind : Kind) (size : BlockSize) (blocks : ℕ) (pieces : List Piece) → fault_of kind size blocks pieces ≡ None → counted_lengths kind pieces ≡ need_of kind size blocks
-counted kind size blocks pieces h = grind (arith, nat_tests)
+-- no row of the checks holds
+its_bytes : (many empty crosses count bytes own : Bool)
+    → ◌≡◌ {A = Option RequestFault} (first_passing ((many, TooManyPieces) ∷ (empty, EmptyPiece) ∷ (crosses, CrossesPage) ∷ (count, BadCount) ∷ (not bytes, LengthMismatch) ∷ (own, HostsOwn) ∷ [])) None → bytes ≡ true
+its_bytes true empty crosses count bytes own h = absurd cc
+its_bytes false true crosses count bytes own h = absurd cc
+its_bytes false false true count bytes own h = absurd cc
+its_bytes false false false true bytes own h = absurd cc
+its_bytes false false false false true own h = refl
+its_bytes false false false false false own h = absurd cc
+
+pub has_bytes : (kind : Kind) (size : BlockSize) (blocks : ℕ) (pieces : List Piece) → fault_of kind size blocks pieces ≡ None → has_its_bytes kind size blocks pieces ≡ true
+has_bytes kind size blocks pieces h =
+    its_bytes (nat_lt 1024 (length pieces)) (list_any is_empty_piece pieces) (list_any crosses_page pieces) (not (is_count kind size blocks)) (has_its_bytes kind size blocks pieces) (is_hosts_own kind) h
+
+pub counted : (kind : Kind) (size : BlockSize) (blocks : ℕ) (pieces : List Piece) → fault_of kind size blocks pieces ≡ None → is_admin kind ≡ false → counted_lengths kind pieces ≡ need_of kind size blocks
+counted Read size blocks pieces h far = eqb-true (counted_lengths Read pieces) (need_of Read size blocks) (has_bytes Read size blocks pieces h)
+counted Write size blocks pieces h far = eqb-true (counted_lengths Write pieces) (need_of Write size blocks) (has_bytes Write size blocks pieces h)
+counted Compare size blocks pieces h far = eqb-true (counted_lengths Compare pieces) (need_of Compare size blocks) (has_bytes Compare size blocks pieces h)
+counted WriteZeroes size blocks pieces h far = eqb-true (counted_lengths WriteZeroes pieces) (need_of WriteZeroes size blocks) (has_bytes WriteZeroes size blocks pieces h)
+counted Verify size blocks pieces h far = eqb-true (counted_lengths Verify pieces) (need_of Verify size blocks) (has_bytes Verify size blocks pieces h)
+counted Flush size blocks pieces h far = eqb-true (counted_lengths Flush pieces) (need_of Flush size blocks) (has_bytes Flush size blocks pieces h)
+counted (Admin command) size blocks pieces h far = absurd (true≢false far)
+
+-- what moves data through a list is no admin command
+pub moves_blocks : (kind : Kind) → moves_data kind ≡ true → is_admin kind ≡ false
+moves_blocks Read moves = refl
+moves_blocks Write moves = refl
+moves_blocks Compare moves = refl
+moves_blocks WriteZeroes moves = refl
+moves_blocks Verify moves = refl
+moves_blocks Flush moves = refl
+moves_blocks (Admin command) moves = absurd (true≢false (sym moves))
 
 -- where it moves data it names blocks
 pub moves_names : (kind : Kind) → moves_data kind ≡ true → names_blocks kind ≡ true
@@ -53,6 +87,7 @@ moves_names Compare moves = refl
 moves_names WriteZeroes moves = refl
 moves_names Verify moves = refl
 moves_names Flush moves = absurd (true≢false (sym moves))
+moves_names (Admin command) moves = absurd (true≢false (sym moves))
 
 in_range : (most blocks : ℕ) (names : Bool) → names ≡ true → (if names then not ((blocks == 0) || nat_lt most blocks) else blocks == 0) ≡ true → 0 < blocks
 in_range most blocks true is h = grind (arith, nat_tests)
@@ -83,28 +118,29 @@ few_blocks kind size blocks pieces h = at_most (most_blocks size) blocks (names_
 
 pub some_pieces : (kind : Kind) (size : BlockSize) (blocks : ℕ) (pieces : List Piece) → fault_of kind size blocks pieces ≡ None → moves_data kind ≡ true → 0 < length pieces
 some_pieces kind size blocks [] h moves =
-    let need : 0 ≡ block_bytes size * blocks = counted kind size blocks [] h ∙ ap (λ (b : Bool). if b then block_bytes size * blocks else 0) moves in
+    let need : 0 ≡ block_bytes size * blocks = counted kind size blocks [] h (moves_blocks kind moves) ∙ ap (λ (b : Bool). if b then block_bytes size * blocks else 0) moves in
     let some = some_blocks kind size blocks [] h moves in
     let none = some_bytes size blocks some in
     absurd (omega (arith, need, none))
 some_pieces kind size blocks (piece ∷ pieces) h moves = omega arith
 
-some_length : (kind : Kind) (piece : Piece) → moves_data kind ≡ false → is_empty_piece piece ≡ false → counted_length kind piece ≡ 0 → ⊥
-some_length kind (Data offset len) still some none = grind (arith, nat_tests)
-some_length WriteZeroes (Bucket len) still some none = grind (arith, nat_tests)
-some_length Verify (Bucket len) still some none = grind (arith, nat_tests)
-some_length Flush (Bucket len) still some none = grind (arith, nat_tests)
-some_length Read (Bucket len) still some none = true≢false still
-some_length Write (Bucket len) still some none = true≢false still
-some_length Compare (Bucket len) still some none = true≢false still
+some_length : (kind : Kind) (piece : Piece) → moves_data kind ≡ false → is_admin kind ≡ false → is_empty_piece piece ≡ false → counted_length kind piece ≡ 0 → ⊥
+some_length kind (Data offset len) still far some none = grind (arith, nat_tests)
+some_length WriteZeroes (Bucket len) still far some none = grind (arith, nat_tests)
+some_length Verify (Bucket len) still far some none = grind (arith, nat_tests)
+some_length Flush (Bucket len) still far some none = grind (arith, nat_tests)
+some_length (Admin command) (Bucket len) still far some none = true≢false far
+some_length Read (Bucket len) still far some none = true≢false still
+some_length Write (Bucket len) still far some none = true≢false still
+some_length Compare (Bucket len) still far some none = true≢false still
 
--- one that moves none has no piece
-pub no_pieces : (kind : Kind) (size : BlockSize) (blocks : ℕ) (pieces : List Piece) → fault_of kind size blocks pieces ≡ None → moves_data kind ≡ false → pieces ≡ []
-no_pieces kind size blocks [] h still = refl
-no_pieces kind size blocks (piece ∷ pieces) h still =
-    let need : counted_lengths kind (piece ∷ pieces) ≡ 0 = counted kind size blocks (piece ∷ pieces) h ∙ ap (λ (b : Bool). if b then block_bytes size * blocks else 0) still in
+-- a command of blocks that moves none has no piece
+pub no_pieces : (kind : Kind) (size : BlockSize) (blocks : ℕ) (pieces : List Piece) → fault_of kind size blocks pieces ≡ None → moves_data kind ≡ false → is_admin kind ≡ false → pieces ≡ []
+no_pieces kind size blocks [] h still far = refl
+no_pieces kind size blocks (piece ∷ pieces) h still far =
+    let need : counted_lengths kind (piece ∷ pieces) ≡ 0 = counted kind size blocks (piece ∷ pieces) h far ∙ ap (λ (b : Bool). if b then block_bytes size * blocks else 0) still in
     let none : is_empty_piece piece ≡ false = grind (arith, nat_tests) in
-    absurd (some_length kind piece still none (omega (arith, need, sum_by-cons (counted_length kind) piece pieces)))
+    absurd (some_length kind piece still far none (omega (arith, need, sum_by-cons (counted_length kind) piece pieces)))
 
 pub length-parts_of : (pieces : List Piece) (numbers : List ℕ) → data_count pieces ≤ length numbers → length (parts_of pieces numbers) ≡ length pieces
 length-parts_of [] numbers few = refl
@@ -193,7 +229,7 @@ built_spells d chain count segments first spells = λ moves m held.
     rw (same_numbers (draft_segments d) d.chain_pages count, ← first)
     (spells m (rw segments (held_laid m (draft_segments d) d.chain_pages (omega (arith, count)) held)))
 
--- A draft that moves no data has no chain.
+-- A draft that moves no data by a list has no chain.
 
 laid-none : (segments : List (List Descriptor)) → laid segments [] ≡ []
 laid-none [] = refl
@@ -203,19 +239,59 @@ no_pages : (pages : PagesOut) → length pages ≡ 0 → pages ≡ []
 no_pages [] none = refl
 no_pages (page ∷ pages) none = absurd (omega (arith, none))
 
+-- the page of an admin command is one part at most, which needs no chain
+one_part : (page : PageUse) (pieces : List Piece) (pages : List ℕ) (segment : ℕ) → has_its_page page pieces ≡ true → pages_needed (length (joined_parts pieces pages)) segment ≡ 0
+one_part page [] pages segment h = refl
+one_part page (Data offset len ∷ []) [] segment h = refl
+one_part page (Data offset len ∷ []) (n ∷ pages) segment h = refl
+one_part page (Data offset len ∷ piece ∷ pieces) pages segment h = absurd (true≢false (sym h))
+one_part page (Bucket len ∷ pieces) pages segment h = absurd (true≢false (sym h))
+
+no_part : (r : Request) (pages : List ℕ) (segment : ℕ) → IsGood r → moves_data r.kind ≡ false → is_admin r.kind ≡ false → pages_needed (length (joined_parts r.pieces pages)) segment ≡ 0
+no_part r pages segment good still far =
+    ap (λ (pieces : List Piece). pages_needed (length (joined_parts pieces pages)) segment) (no_pieces r.kind r.block_size r.blocks r.pieces good still far)
+
+none_needed : (kind : Kind) (r : Request) (pages : List ℕ) (segment : ℕ) → r.kind ≡ kind → IsGood r → moves_data kind ≡ false → pages_needed (length (joined_parts r.pieces pages)) segment ≡ 0
+none_needed Read r pages segment is good still = absurd (true≢false still)
+none_needed Write r pages segment is good still = absurd (true≢false still)
+none_needed Compare r pages segment is good still = absurd (true≢false still)
+none_needed WriteZeroes r pages segment is good still = no_part r pages segment good (ap moves_data is) (ap is_admin is)
+none_needed Verify r pages segment is good still = no_part r pages segment good (ap moves_data is) (ap is_admin is)
+none_needed Flush r pages segment is good still = no_part r pages segment good (ap moves_data is) (ap is_admin is)
+none_needed (Admin command) r pages segment is good still =
+    one_part command.page r.pieces pages segment (sym (ap (λ (k : Kind). has_its_bytes k r.block_size r.blocks r.pieces) is) ∙ has_bytes r.kind r.block_size r.blocks r.pieces good)
+
 pub no_chain : (d : DraftContents) → IsDraft d → moves_data d.request.kind ≡ false → d.chain_pages ≡ []
-no_chain d h still =
-    no_pages d.chain_pages (h.chain_has_pages
-    ∙ ap (λ (pieces : List Piece). pages_needed (length (joined_parts pieces (numbers_of d.data_pages))) d.segment) (no_pieces d.request.kind d.request.block_size d.request.blocks d.request.pieces h.good still))
+no_chain d h still = no_pages d.chain_pages (h.chain_has_pages ∙ none_needed d.request.kind d.request (numbers_of d.data_pages) d.segment refl h.good still)
 
 -- with its entry it is built
-pub built_still : (d : DraftContents) (entry : SubEntry) → IsDraft d → moves_data d.request.kind ≡ false → entry ≡ io_entry d.cid d.request (replicate 16 0)
-    → ◌≡◌ {A = DraftContents} (record d { entry = Some entry }) (built d)
-built_still d entry h still is =
+pub built_as : (d : DraftContents) (entry : SubEntry) → IsDraft d → moves_data d.request.kind ≡ false → entry ≡ draft_entry d → ◌≡◌ {A = DraftContents} (record d { entry = Some entry }) (built d)
+built_as d entry h still is =
     let none : d.chain_pages ≡ [] = no_chain d h still in
     let laid_there : laid (draft_segments d) d.chain_pages ≡ d.chain_pages = ap (laid (draft_segments d)) none ∙ laid-none (draft_segments d) ∙ sym none in
-    let named : io_entry d.cid d.request (replicate 16 0) ≡ draft_entry d = rw still refl in
-    rw (laid_there, is ∙ named) refl
+    rw (laid_there, is) refl
+
+-- the entry of a command of blocks, and of an admin command
+pub entry_of_blocks : (kind : Kind) (cid : ℕ) (r : Request) (sgl1 : List ℕ) (pages : List ℕ) → is_admin kind ≡ false → entry_of kind cid r sgl1 pages ≡ io_entry cid r sgl1
+entry_of_blocks Read cid r sgl1 pages far = refl
+entry_of_blocks Write cid r sgl1 pages far = refl
+entry_of_blocks Compare cid r sgl1 pages far = refl
+entry_of_blocks WriteZeroes cid r sgl1 pages far = refl
+entry_of_blocks Verify cid r sgl1 pages far = refl
+entry_of_blocks Flush cid r sgl1 pages far = refl
+entry_of_blocks (Admin command) cid r sgl1 pages far = absurd (true≢false far)
+
+pub draft_of_blocks : (d : DraftContents) → is_admin d.request.kind ≡ false → draft_entry d ≡ io_entry d.cid d.request (spelling (draft_first d))
+draft_of_blocks d far = entry_of_blocks d.request.kind d.cid d.request (spelling (draft_first d)) (numbers_of d.data_pages) far
+
+pub draft_of_admin : (d : DraftContents) (command : AdminCommand) → d.request.kind ≡ Admin command → draft_entry d ≡ caller_entry d.cid d.request.nsid command (numbers_of d.data_pages)
+draft_of_admin d command is = ap (λ (k : Kind). entry_of k d.cid d.request (spelling (draft_first d)) (numbers_of d.data_pages)) is
+
+pub built_still : (d : DraftContents) (entry : SubEntry) → IsDraft d → moves_data d.request.kind ≡ false → is_admin d.request.kind ≡ false → entry ≡ io_entry d.cid d.request (replicate 16 0)
+    → ◌≡◌ {A = DraftContents} (record d { entry = Some entry }) (built d)
+built_still d entry h still far is =
+    let named : io_entry d.cid d.request (replicate 16 0) ≡ io_entry d.cid d.request (spelling (draft_first d)) = rw still refl in
+    built_as d entry h still (is ∙ named ∙ sym (draft_of_blocks d far))
 
 pub no_segments : (d : DraftContents) → IsDraft d → moves_data d.request.kind ≡ false → length (draft_segments d) ≡ length d.chain_pages
 no_segments d h still =

@@ -4,7 +4,8 @@ use Rattle.sgl_descriptor.specs.{Spelling.spelling, declared.{Descriptor.Descrip
 use Rattle.sgl_chain.specs.{Chains.{pages_needed, first_of, segments_on, segment_bytes}, Spells.{Spells, Holds}}
 use Rattle.page_memory.specs.{Memory.Memory, Pages.with_bytes}
 use Rattle.entry_codec.specs.declared.submission.SubEntry.{SubEntry}
-use Rattle.io_commands.specs.{Asked.Request, DataBytes.PagesOut, Requests.{opcode_of, flag_bits, moves_data, data_count, joined_parts, FitsRequest}, Values.{numbers_of, IsGood}, declared.request.Kind.Kind}
+use Rattle.io_commands.specs.{Admin.{page_pointer}, Asked.Request, DataBytes.PagesOut, Requests.{opcode_of, flag_bits, moves_data, data_count, joined_parts, FitsRequest}, Values.{numbers_of, IsGood}}
+use Rattle.io_commands.specs.declared.{admin.AdminCommand.AdminCommand, request.Kind.{Kind, TheVariants.Admin}}
 
 -- a draft: its pages with their bytes, one for each data piece and those of the chain, and its entry once it is built
 pub record DraftContents : Type 0 where
@@ -16,11 +17,11 @@ pub record DraftContents : Type 0 where
   pub segment : ℕ
   pub entry : Option SubEntry
 
--- the bytes of an entry's data pointer: its first descriptor's where data moves, and zeros where none does
+-- the bytes of an entry's data pointer: its first descriptor's where data moves by a list, and zeros where none does
 abbrev pub pointer_of : Kind → List ℕ → List ℕ
 pointer_of kind sgl1 = if moves_data kind then sgl1 else replicate 16 0
 
--- the entry that the driver sends for a request, with its first descriptor's bytes
+-- the entry that the driver sends for a request of blocks, with its first descriptor's bytes
 abbrev pub io_entry : ℕ → Request → List ℕ → SubEntry
 io_entry cid request sgl1 =
     record {
@@ -39,6 +40,35 @@ io_entry cid request sgl1 =
       cdw15 = 0;
     }
 
+-- the page that an admin command's data pointer names, if it has one
+abbrev pub admin_pointer : List ℕ → List ℕ
+admin_pointer [] = replicate 16 0
+admin_pointer (page ∷ pages) = page_pointer page
+
+-- the entry that it sends for an admin command of the caller's own, with its data in these pages
+abbrev pub caller_entry : ℕ → ℕ → AdminCommand → List ℕ → SubEntry
+caller_entry cid nsid command pages =
+    record {
+      opcode = command.opcode;
+      fuse = 0;
+      psdt = 0;
+      cid = cid;
+      nsid = nsid;
+      mptr = 0;
+      sgl1 = admin_pointer pages;
+      cdw10 = command.cdw10;
+      cdw11 = command.cdw11;
+      cdw12 = command.cdw12;
+      cdw13 = command.cdw13;
+      cdw14 = command.cdw14;
+      cdw15 = command.cdw15;
+    }
+
+-- the entry of either, with the descriptor of a command of blocks and the data pages of an admin command
+abbrev pub entry_of : Kind → ℕ → Request → List ℕ → List ℕ → SubEntry
+entry_of (Admin command) cid request sgl1 pages = caller_entry cid request.nsid command pages
+entry_of kind cid request sgl1 pages = io_entry cid request sgl1
+
 -- the parts of a draft in its own pages, neighbours that join as one
 abbrev pub draft_parts : DraftContents → List Part
 draft_parts d = joined_parts d.request.pieces (numbers_of d.data_pages)
@@ -51,7 +81,7 @@ abbrev pub draft_segments : DraftContents → List (List Descriptor)
 draft_segments d = segments_on d.segment (numbers_of d.chain_pages) (draft_parts d)
 
 abbrev pub draft_entry : DraftContents → SubEntry
-draft_entry d = io_entry d.cid d.request (spelling (draft_first d))
+draft_entry d = entry_of d.request.kind d.cid d.request (spelling (draft_first d)) (numbers_of d.data_pages)
 
 -- pages with the bytes of segments at their starts, one segment in each as far as there are segments
 abbrev pub laid : List (List Descriptor) → PagesOut → PagesOut

@@ -1,3 +1,4 @@
+pub mod Admin
 pub mod DataBytes
 pub mod Drafting
 pub mod Drafts
@@ -5,6 +6,7 @@ pub mod Finisheds
 pub mod Jobs
 pub mod Requests
 pub mod Values
+pub mod Worked
 pub mod Asked
 pub mod BlockSizes
 pub mod Ends

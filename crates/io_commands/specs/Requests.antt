@@ -5,8 +5,8 @@ use Rattle.controller_walk.specs.Units.{first_passing}
 use Rattle.sgl_descriptor.specs.declared.{Direction.{Direction, TheVariants.{Destination, Source}}, Part.Part}
 use Rattle.sgl_chain.specs.Joining.{joined}
 use Rattle.entry_codec.specs.declared.io_opcode.TheConstants.{READ, WRITE, COMPARE, WRITE_ZEROES, VERIFY, FLUSH}
-use Rattle.io_commands.specs.{Asked.Request, BlockSizes.{block_bytes, most_blocks}, declared.block_size.BlockSize.BlockSize, declared.request.{Flags.Flags, Kind.{Kind, TheVariants.{Read, Write, Compare, WriteZeroes, Verify, Flush}}, Piece.{Piece, TheVariants.{Data, Bucket}}}}
-use Rattle.io_commands.specs.declared.request.RequestFault.{RequestFault, TheVariants.{TooManyPieces, EmptyPiece, CrossesPage, BadCount, LengthMismatch}}
+use Rattle.io_commands.specs.{Admin.{comes_in, has_its_page, is_kept}, Asked.Request, BlockSizes.{block_bytes, most_blocks}, declared.block_size.BlockSize.BlockSize, declared.request.{Flags.Flags, Kind.{Kind, TheVariants.{Read, Write, Compare, WriteZeroes, Verify, Flush, Admin}}, Piece.{Piece, TheVariants.{Data, Bucket}}}}
+use Rattle.io_commands.specs.declared.request.RequestFault.{RequestFault, TheVariants.{TooManyPieces, EmptyPiece, CrossesPage, BadCount, LengthMismatch, HostsOwn}}
 use Rattle.sgl_descriptor.specs.declared.Part.TheVariants as part
 
 -- a Read, a Write and a Compare move data between blocks and the host's pages, and the others move none
@@ -17,16 +17,27 @@ moves_data Compare = true
 moves_data WriteZeroes = false
 moves_data Verify = false
 moves_data Flush = false
+moves_data (Admin command) = false
 
--- all but a Flush name blocks
+-- all but a Flush and an admin command name blocks
 abbrev pub names_blocks : Kind → Bool
 names_blocks Flush = false
+names_blocks (Admin command) = false
 names_blocks kind = true
 
--- a Read brings data to the host's pages, a Write and a Compare take it from them; of one that moves none it says nothing
+abbrev pub is_admin : Kind → Bool
+is_admin (Admin command) = true
+is_admin kind = false
+
+-- data comes to the host's pages in a Read, and in an admin command that has it come
+abbrev pub brings_data : Kind → Bool
+brings_data Read = true
+brings_data (Admin command) = comes_in command.page
+brings_data kind = false
+
+-- which way it goes; of a command that moves none it says nothing
 abbrev pub direction_of : Kind → Direction
-direction_of Read = Destination
-direction_of kind = Source
+direction_of kind = if brings_data kind then Destination else Source
 
 abbrev pub opcode_of : Kind → ℕ
 opcode_of Read = READ
@@ -35,6 +46,7 @@ opcode_of Compare = COMPARE
 opcode_of WriteZeroes = WRITE_ZEROES
 opcode_of Verify = VERIFY
 opcode_of Flush = FLUSH
+opcode_of (Admin command) = command.opcode
 
 -- the bits of a command's flags in CDW12: Force Unit Access is bit 30, Limited Retry bit 31
 abbrev pub flag_bits : Flags → ℕ
@@ -66,7 +78,17 @@ counted_lengths kind pieces = sum_by (counted_length kind) pieces
 abbrev pub need_of : Kind → BlockSize → ℕ → ℕ
 need_of kind size blocks = if moves_data kind then block_bytes size * blocks else 0
 
--- a command has 1 block to 1 MiB of them, and a Flush none
+-- what its pieces are: the bytes of its blocks, and for an admin command its page
+abbrev pub has_its_bytes : Kind → BlockSize → ℕ → List Piece → Bool
+has_its_bytes (Admin command) size blocks pieces = has_its_page command.page pieces
+has_its_bytes kind size blocks pieces = counted_lengths kind pieces == need_of kind size blocks
+
+-- whether it is an admin command that the host keeps to itself
+abbrev pub is_hosts_own : Kind → Bool
+is_hosts_own (Admin command) = is_kept command
+is_hosts_own kind = false
+
+-- a command has 1 block to 1 MiB of them, and none where it names none
 abbrev pub is_count : Kind → BlockSize → ℕ → Bool
 is_count kind size blocks = if names_blocks kind then not ((blocks == 0) || nat_lt (most_blocks size) blocks) else blocks == 0
 
@@ -93,7 +115,8 @@ fault_of kind size blocks pieces =
     ∷ (list_any is_empty_piece pieces, EmptyPiece)
     ∷ (list_any crosses_page pieces, CrossesPage)
     ∷ (not (is_count kind size blocks), BadCount)
-    ∷ (not (counted_lengths kind pieces == need_of kind size blocks), LengthMismatch)
+    ∷ (not (has_its_bytes kind size blocks pieces), LengthMismatch)
+    ∷ (is_hosts_own kind, HostsOwn)
     ∷ [])
 
 -- The numbers of a piece, and those of a request, fit their types.

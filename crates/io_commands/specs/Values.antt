@@ -1,8 +1,8 @@
 -- What tickets and finished commands are.
-use Rattle.std.specs.Prelude.{◌≡◌, ℕ, None, List, [], map, take, drop, sum_by}
+use Rattle.std.specs.Prelude.{◌≡◌, ℕ, None, List, [], if◌then◌else◌, map, take, drop, sum_by}
 use Rattle.entry_codec.specs.declared.{hints.Hints.Hints, status.Status.Status}
-use Rattle.io_commands.specs.{Asked.Request, DataBytes.{PagesOut, data_length, gathered}, Requests.{data_count, fault_of}, declared.request.Kind.Kind}
-use Rattle.io_commands.specs.declared.request.{Kind.TheVariants.{Read}, Piece.Piece}
+use Rattle.io_commands.specs.{Asked.Request, DataBytes.{PagesOut, data_length, gathered}, Requests.{brings_data, data_count, fault_of}, declared.request.Kind.Kind}
+use Rattle.io_commands.specs.declared.request.Piece.{Piece}
 
 -- a submitted command
 pub record TicketContents : Type 0 where
@@ -33,15 +33,13 @@ chain_part request pages = drop (data_count request.pieces) pages
 abbrev pub IsGood : Request → Type 0
 IsGood request = fault_of request.kind request.block_size request.blocks request.pieces ≡ None
 
--- what a finished command gathers: a Read's data, and nothing of another
+-- what a finished command gathers: the data that came, and nothing of a command that brings none
 abbrev pub gathered_by : Kind → List Piece → PagesOut → List ℕ
-gathered_by Read pieces pages = gathered pieces pages
-gathered_by kind pieces pages = []
+gathered_by kind pieces pages = if brings_data kind then gathered pieces pages else []
 
 abbrev pub gathered_from : FinishedContents → List ℕ
 gathered_from f = gathered_by f.request.kind f.request.pieces f.data_pages
 
 -- how many bytes that is
 abbrev pub gathered_length : Kind → List Piece → ℕ
-gathered_length Read pieces = sum_by data_length pieces
-gathered_length kind pieces = 0
+gathered_length kind pieces = if brings_data kind then sum_by data_length pieces else 0

@@ -1,15 +1,16 @@
 //! A command that is being prepared, outside the store.
 
 ghost use Rattle.std.specs.Prelude.{◌≡◌, ◌≢◌, ◌<◌, ◌≤◌, ◌+◌, ◌-◌, ◌++◌, ◌↔◌, true, false, length, replicate, sum_by, Err, IfOk, OnOk, OnErr, None, Some};
-ghost use Rattle.io_commands.specs.declared.request.Kind.TheVariants.{Read};
-ghost use Rattle.io_commands.specs.Requests.{joined_parts, moves_data, FitsRequest};
+ghost use Rattle.io_commands.specs.declared.request.Kind.TheVariants.{Admin};
+ghost use Rattle.io_commands.specs.Requests.{brings_data, is_admin, joined_parts, moves_data, FitsRequest};
 ghost use Rattle.io_commands.specs.DataBytes.{data_length, filled};
 ghost use Rattle.io_commands.specs.Values.{IsGood, numbers_of, data_part, chain_part};
 ghost use Rattle.io_commands.specs.Least.{pages_with};
-ghost use Rattle.io_commands.specs.Drafts.{built, IsDraft, SpellsItsParts, io_entry as spec_io_entry};
+ghost use Rattle.io_commands.specs.Drafts.{built, caller_entry, IsDraft, SpellsItsParts, io_entry as spec_io_entry};
 ghost use Rattle.io_commands.specs.Lent.{lends_data, bytes_of};
 ghost use Rattle.std.specs.Borrow.{sem};
 
+use crate::admin::{AdminCommand, page_pointer};
 use crate::data_bytes::fill_first;
 use crate::layout::{chain_of, lay_all};
 use crate::request::{Kind, Request};
@@ -60,7 +61,7 @@ pub struct DraftParts<A: Allocator = Global> {
 /// Why a draft was not filled.
 #[derive(Clone, Copy, Debug, PartialEq, Eq, Error)]
 pub enum FillFault {
-    /// It is a Read, which brings data to the pages.
+    /// It is a Read, or an admin command, that brings data to the pages.
     #[error("a Read is not filled")]
     NotASource,
     /// The bytes are not as many as the data pieces take.
@@ -165,18 +166,18 @@ impl<A: Allocator> Draft<A> {
     ///
     /// # Errors
     ///
-    /// The draft is then as it was. 1. `NotASource` exactly for a Read. 2. `WrongLength` exactly where it is no Read and the bytes
-    /// are not as many as the data pieces take.
+    /// The draft is then as it was. 1. `NotASource` exactly for a command that brings data ([`Kind::brings_data`]). 2. `WrongLength`
+    /// exactly where it brings none and the bytes are not as many as the data pieces take.
     pub fn fill(&mut self, bytes: &[u8]) -> Result<(), FillFault>
         ensures filled { OnOk result (self.new ≡ record self.old { data_pages = filled self.old.request.pieces self.old.data_pages bytes.now }) }
         ensures length { OnOk result (length bytes.now ≡ sum_by data_length self.old.request.pieces) }
-        ensures not_a_source { (result ≡ Err FillFault.NotASource) ↔ (self.old.request.kind ≡ Read) }
+        ensures not_a_source { (result ≡ Err FillFault.NotASource) ↔ (brings_data self.old.request.kind ≡ true) }
         ensures wrong_length { (result ≡ Err FillFault.WrongLength)
-            ↔ ((self.old.request.kind ≢ Read) × (length bytes.now ≢ sum_by data_length self.old.request.pieces)) }
+            ↔ ((brings_data self.old.request.kind ≡ false) × (length bytes.now ≢ sum_by data_length self.old.request.pieces)) }
         ensures refused { OnErr result (self.new ≡ self.old) }
     {
         let few = (bytes.len() as u64) < self.request.data_bytes();
-        if few && !matches!(self.request.kind, Kind::Read) {
+        if few && !self.request.kind.brings_data() {
             return Err(FillFault::WrongLength);
         }
         self.fill_padded(bytes)
@@ -187,19 +188,19 @@ impl<A: Allocator> Draft<A> {
     ///
     /// # Errors
     ///
-    /// The draft is then as it was. 1. `NotASource` exactly for a Read. 2. `WrongLength` exactly where it is no Read and the bytes
-    /// are more than the data pieces take.
+    /// The draft is then as it was. 1. `NotASource` exactly for a command that brings data ([`Kind::brings_data`]). 2. `WrongLength`
+    /// exactly where it brings none and the bytes are more than the data pieces take.
     pub fn fill_padded(&mut self, bytes: &[u8]) -> Result<(), FillFault>
         ensures filled { OnOk result (self.new ≡ record self.old {
           data_pages = filled self.old.request.pieces self.old.data_pages (bytes.now ++ replicate (sum_by data_length self.old.request.pieces - length bytes.now) 0);
         }) }
         ensures length { OnOk result (length bytes.now ≤ sum_by data_length self.old.request.pieces) }
-        ensures not_a_source { (result ≡ Err FillFault.NotASource) ↔ (self.old.request.kind ≡ Read) }
+        ensures not_a_source { (result ≡ Err FillFault.NotASource) ↔ (brings_data self.old.request.kind ≡ true) }
         ensures wrong_length { (result ≡ Err FillFault.WrongLength)
-            ↔ ((self.old.request.kind ≢ Read) × (sum_by data_length self.old.request.pieces < length bytes.now)) }
+            ↔ ((brings_data self.old.request.kind ≡ false) × (sum_by data_length self.old.request.pieces < length bytes.now)) }
         ensures refused { OnErr result (self.new ≡ self.old) }
     {
-        if matches!(self.request.kind, Kind::Read) {
+        if self.request.kind.brings_data() {
             return Err(FillFault::NotASource);
         }
         if bytes.len() as u64 > self.request.data_bytes() {
@@ -223,7 +224,7 @@ impl<A: Allocator> Draft<A> {
     }
 
     /// Lays the chain of the command's parts into the draft's own pages, and makes its entry; a command that moves no data has no
-    /// chain. A second build lays the same bytes. It takes no lock and reaches no store.
+    /// chain, nor has an admin command. A second build lays the same bytes. It takes no lock and reaches no store.
     ///
     /// # Errors
     ///
@@ -233,11 +234,16 @@ impl<A: Allocator> Draft<A> {
         ensures spells { OnOk result (SpellsItsParts self.new) }
         ensures refused { OnErr result (self.new ≡ self.old) }
     {
-        if self.request.kind.moves_data() {
-            self.build_with_data(alloc)
-        } else {
-            self.build_without_data();
-            Ok(())
+        match self.request.kind {
+            Kind::Read | Kind::Write | Kind::Compare => self.build_with_data(alloc),
+            Kind::WriteZeroes | Kind::Verify | Kind::Flush => {
+                self.build_without_data();
+                Ok(())
+            }
+            Kind::Admin(command) => {
+                self.build_admin(command);
+                Ok(())
+            }
         }
     }
 
@@ -256,9 +262,19 @@ impl<A: Allocator> Draft<A> {
         Ok(())
     }
 
-    /// Makes the entry of a command that moves no data.
+    /// Makes the entry of an admin command.
+    fn build_admin(&mut self, command: AdminCommand)
+        requires kind { self.old.request.kind ≡ Admin command }
+        ensures built { self.new ≡ built self.old }
+        ensures spells { SpellsItsParts self.new }
+    {
+        self.entry = Some(admin_entry(self.cid, self.request.nsid, command, self.data_pages()));
+    }
+
+    /// Makes the entry of a command of blocks that moves no data.
     fn build_without_data(&mut self)
         requires still { moves_data self.old.request.kind ≡ false }
+        requires blocks { is_admin self.old.request.kind ≡ false }
         ensures built { self.new ≡ built self.old }
         ensures spells { SpellsItsParts self.new }
     {
@@ -291,7 +307,37 @@ impl<A: Allocator> Draft<A> {
     }
 }
 
-/// The entry that the driver sends for a request (NVM Command Set Specification 1.0, section 3.2): SGLs in the data pointer
+/// The entry that the driver sends for an admin command (NVM Express Base Specification 2.0, section 3.3.3.1): the page, if there is
+/// one, as PRP1 (PSDT 00b), and the command's own words.
+fn admin_entry<A: Allocator>(
+    cid: u16,
+    nsid: u32,
+    command: AdminCommand,
+    pages: &[Page<A>],
+) -> SubEntry
+    ensures { result ≡ caller_entry cid nsid command (numbers_of pages.now) }
+{
+    SubEntry {
+        opcode: command.opcode,
+        fuse: 0,
+        psdt: 0,
+        cid,
+        nsid,
+        mptr: 0,
+        sgl1: match pages.first() {
+            Some(page) => page_pointer(page.number()),
+            None => [0; 16],
+        },
+        cdw10: command.cdw10,
+        cdw11: command.cdw11,
+        cdw12: command.cdw12,
+        cdw13: command.cdw13,
+        cdw14: command.cdw14,
+        cdw15: command.cdw15,
+    }
+}
+
+/// The entry that the driver sends for a request of blocks (NVM Command Set Specification 1.0, section 3.2): SGLs in the data pointer
 /// (PSDT 01b) where data moves, the request's namespace, the first block in CDW10 and CDW11, in CDW12 the number of blocks
 /// less one, if it names any, and the flags; all else zero (own).
 fn io_entry<A: Allocator>(cid: u16, request: &Request<A>, sgl1: [u8; 16]) -> SubEntry

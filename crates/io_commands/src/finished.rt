@@ -141,7 +141,8 @@ impl<A: Allocator> Finished<A> {
         self.pages[i].bytes()
     }
 
-    /// The bytes of a Read's data pieces, one after the other, as they stand in its pages; nothing for another command.
+    /// The bytes of the data pieces of a command that brings data ([`Kind::brings_data`]), one after the other, as they stand in its
+    /// pages; nothing for another command.
     ///
     /// # Errors
     ///
@@ -150,32 +151,28 @@ impl<A: Allocator> Finished<A> {
         ensures gathered { IfOk result (λ bytes. bytes.items ≡ gathered_from self.now) }
         ensures refused { OnErr result (0 < gathered_length self.now.request.kind self.now.request.pieces) }
     {
-        match self.request.kind {
-            Kind::Read => {
-                let data = self.request.pieces.data_pages();
-                let mut bytes = Vec::with_capacity(alloc, self.request.data_bytes() as usize)?;
-                push_data(
-                    self.request.pieces.as_slice(),
-                    &self.pages[..data],
-                    &mut bytes,
-                )?;
-                Ok(bytes)
-            }
-            _ => Ok(Vec::new(alloc)),
+        if !self.request.kind.brings_data() {
+            return Ok(Vec::new(alloc));
         }
+        let data = self.request.pieces.data_pages();
+        let mut bytes = Vec::with_capacity(alloc, self.request.data_bytes() as usize)?;
+        push_data(
+            self.request.pieces.as_slice(),
+            &self.pages[..data],
+            &mut bytes,
+        )?;
+        Ok(bytes)
     }
 
     /// Whether these are the bytes that [`Finished::gather`] would bring. It takes no memory, and copies nothing.
     pub fn brings(&self, bytes: &[u8]) -> bool
         ensures { result ≡ bytes_eq (gathered_from self.now) bytes.now }
     {
-        match self.request.kind {
-            Kind::Read => {
-                let data = self.request.pieces.data_pages();
-                holds(self.request.pieces.as_slice(), &self.pages[..data], bytes)
-            }
-            _ => bytes.is_empty(),
+        if !self.request.kind.brings_data() {
+            return bytes.is_empty();
         }
+        let data = self.request.pieces.data_pages();
+        holds(self.request.pieces.as_slice(), &self.pages[..data], bytes)
     }
 
     /// What it was made of, with the pages as they are now.

@@ -4,7 +4,7 @@ ghost use Rattle.std.specs.Prelude.{◌≡◌, ◌<◌, ◌≤◌, ◌+◌, ◌*
 ghost use Rattle.std.specs.Result.{result_err};
 ghost use Rattle.block_image.specs.Blocks.{block_count};
 ghost use Rattle.controller_walk.specs.Walks.{DoesFirst, LeavesRest};
-ghost use Rattle.io_commands.specs.Requests.{moves_data, opcode_of};
+ghost use Rattle.io_commands.specs.Requests.{is_admin, moves_data, opcode_of};
 ghost use Rattle.io_commands.specs.declared.request.Kind.{Kind};
 ghost use Rattle.io_commands.specs.Jobs.{IsJob, kind_of_opcode, first_block as spec_first_block, block_number as spec_block_number, need_of_entry, direction_of_entry, io_fault, NoFaultIsPassing, first_bytes as spec_first_bytes, bytes_after_check, BeginsWalk, job_course, left_of_walk, verdict_of, finished_status, finished_image, status_after, image_after, entry_over};
 
@@ -271,10 +271,10 @@ pub fn finish_job<A: Allocator, B: Allocator>(job: Job<A>, image: &mut Image<B>)
     status
 }
 
-/// The controller has each command that moves data by its opcode, and no other.
+/// The controller has each command of blocks that moves data by its opcode, and no other.
 pub fn laws_of_opcodes()
     ensures undone { (kind : Kind) → moves_data kind ≡ true → kind_of_opcode (opcode_of kind) ≡ Some kind }
-    ensures unknown { (kind : Kind) → moves_data kind ≡ false → kind_of_opcode (opcode_of kind) ≡ None }
+    ensures unknown { (kind : Kind) → is_admin kind ≡ false → moves_data kind ≡ false → kind_of_opcode (opcode_of kind) ≡ None }
     ensures only { (opcode : ℕ) (kind : Kind) → kind_of_opcode opcode ≡ Some kind → opcode ≡ opcode_of kind }
 {}
 

@@ -1,9 +1,14 @@
 //! Laws of the definitions that the contracts cite. Each function's clauses are laws, and it changes nothing.
 
-ghost use Rattle.std.specs.Prelude.{◌≡◌, ◌∷◌, [], ℕ, List};
+ghost use Rattle.std.specs.Prelude.{◌≡◌, ◌∷◌, [], ℕ, List, None, Some, replicate};
 ghost use Rattle.io_commands.specs.declared.request.Piece.{Piece};
 ghost use Rattle.io_commands.specs.declared.request.Piece.TheVariants.{Data, Bucket};
-ghost use Rattle.io_commands.specs.Drafts.{DraftsCarryTheirEntry, BuiltDraftsSpell};
+ghost use Rattle.io_commands.specs.Drafts.{caller_entry, DraftsCarryTheirEntry, BuiltDraftsSpell};
+ghost use Rattle.io_commands.specs.Requests.{fault_of};
+ghost use Rattle.io_commands.specs.Worked.{command};
+ghost use Rattle.io_commands.specs.declared.admin.PageUse.TheVariants.{Nothing, In, Out};
+ghost use Rattle.io_commands.specs.declared.block_size.BlockSize.TheVariants.{Bytes512};
+ghost use Rattle.io_commands.specs.declared.request.{Kind.TheVariants.Admin, RequestFault.TheVariants.{LengthMismatch, HostsOwn}};
 ghost use Rattle.io_commands.specs.Least.{least_pages, LeastIsBetween, LeastAnywhere, LeastOfAll};
 
 use sgl_chain::laws::laid_chains_spell;
@@ -24,6 +29,21 @@ pub fn laws_of_least_pages()
     ensures between { (pieces : List Piece) (segment : ℕ) → LeastIsBetween pieces segment }
     ensures anywhere { LeastAnywhere }
     ensures of_all { LeastOfAll }
+{}
+
+/// A few admin commands: Identify has one piece from the start of its page, whose address is its PRP1; Set Features without data has none.
+/// The host keeps Delete I/O Submission Queue to itself, and Set Features of the Host Memory Buffer.
+pub fn worked_admin_commands()
+    ensures identify { fault_of (Admin (command 0x06 In 1)) Bytes512 0 (Data 0 4096 ∷ []) ≡ None }
+    ensures pointer { (caller_entry 3 0 (command 0x06 In 1) (5 ∷ [])).sgl1 ≡ 0 ∷ 80 ∷ replicate 14 0 }
+    ensures no_page { fault_of (Admin (command 0x06 In 1)) Bytes512 0 [] ≡ Some LengthMismatch }
+    ensures offset { fault_of (Admin (command 0x06 In 1)) Bytes512 0 (Data 512 512 ∷ []) ≡ Some LengthMismatch }
+    ensures two_pages { fault_of (Admin (command 0x06 In 1)) Bytes512 0 (Data 0 4096 ∷ Data 0 4096 ∷ []) ≡ Some LengthMismatch }
+    ensures features { fault_of (Admin (command 0x09 Nothing 0x07)) Bytes512 0 [] ≡ None }
+    ensures no_pointer { (caller_entry 3 0 (command 0x09 Nothing 0x07) []).sgl1 ≡ replicate 16 0 }
+    ensures buffer { fault_of (Admin (command 0x09 Nothing 0x8000000D)) Bytes512 0 [] ≡ Some HostsOwn }
+    ensures delete { fault_of (Admin (command 0x00 Nothing 1)) Bytes512 0 [] ≡ Some HostsOwn }
+    ensures doorbells { fault_of (Admin (command 0x7C Out 0)) Bytes512 0 (Data 0 4096 ∷ []) ≡ Some HostsOwn }
 {}
 
 /// The fewest pages of a few requests: whole pages need no chain; pieces that leave a gap, and those beside a bucket, do.

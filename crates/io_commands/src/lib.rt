@@ -1,9 +1,11 @@
-//! I/O commands as values and as jobs (NVM Command Set Specification 1.0: Read, Write, Compare).
+//! I/O commands as values and as jobs (NVM Command Set Specification 1.0: Read, Write, Compare and others), and admin commands of
+//! the caller's own as values.
 //!
 //! The host: a [`Request`] is checked, a [`Draft`] is filled and built, a [`Ticket`] stands for a submitted command, and
 //! [`Finished`] is what came of it. The controller: a [`Job`] is a fetched command.
 #![tactic(auto)]
 
+mod admin;
 mod block_size;
 mod data_bytes;
 mod draft;
@@ -15,6 +17,7 @@ mod least;
 mod request;
 mod ticket;
 
+pub use admin::{AdminCommand, PageUse};
 pub use block_size::BlockSize;
 pub use draft::{Draft, DraftParts, FillFault};
 pub use finished::{Finished, FinishedParts};

@@ -4,8 +4,9 @@ ghost use Rattle.std.specs.Prelude.{◌≡◌, ◌≤◌, ◌∷◌, ◌++◌, [
 ghost use Rattle.std.specs.Result.{result_err};
 ghost use Rattle.io_commands.specs.BlockSizes.{most_blocks};
 ghost use Rattle.io_commands.specs.DataBytes.{data_length};
-ghost use Rattle.io_commands.specs.Requests.{moves_data as spec_moves_data, names_blocks as spec_names_blocks, direction_of, opcode_of, need_of, is_count, is_empty_piece, crosses_page as spec_crosses_page, is_data as spec_is_data, counted_length, data_count, fault_of, flag_bits, FitsPiece, FitsRequest};
+ghost use Rattle.io_commands.specs.Requests.{moves_data as spec_moves_data, names_blocks as spec_names_blocks, is_admin as spec_is_admin, brings_data as spec_brings_data, direction_of, opcode_of, need_of, is_count, is_hosts_own, has_its_bytes as spec_has_its_bytes, is_empty_piece, crosses_page as spec_crosses_page, is_data as spec_is_data, counted_length, counted_lengths, data_count, fault_of, flag_bits, FitsPiece, FitsRequest};
 
+use crate::admin::{AdminCommand, PageUse};
 use crate::block_size::BlockSize;
 use entry_codec::io_opcode;
 use sgl_descriptor::Direction;
@@ -19,7 +20,7 @@ pub const MAX_PIECES: usize = 1_024;
 /// The most blocks that a command has, of 512 bytes each (own).
 pub const MAX_COMMAND_BLOCKS: u32 = 2_048;
 
-/// Which I/O command (NVM Command Set Specification 1.0, section 3.2).
+/// Which command: an I/O command (NVM Command Set Specification 1.0, section 3.2), or an admin command of the caller's own.
 #[derive(Clone, Copy, Debug, PartialEq, Eq)]
 pub enum Kind {
     /// Blocks come to the host's pages.
@@ -34,6 +35,8 @@ pub enum Kind {
     Verify,
     /// What was written goes to non-volatile media. It names no blocks, and moves no data.
     Flush,
+    /// An admin command, of queue 0. It names no blocks, and its data is not theirs.
+    Admin(AdminCommand),
 }
 
 impl Kind {
@@ -48,16 +51,35 @@ impl Kind {
     pub fn names_blocks(self) -> bool
         ensures { result ≡ spec_names_blocks self }
     {
-        !matches!(self, Kind::Flush)
+        !matches!(self, Kind::Flush | Kind::Admin(_))
+    }
+
+    /// Whether it is an admin command, of queue 0.
+    pub fn is_admin(self) -> bool
+        ensures { result ≡ spec_is_admin self }
+    {
+        matches!(self, Kind::Admin(_))
+    }
+
+    /// Whether data comes to the host's pages: in a Read, and in an admin command that has data come.
+    pub fn brings_data(self) -> bool
+        ensures { result ≡ spec_brings_data self }
+    {
+        match self {
+            Kind::Read => true,
+            Kind::Admin(command) => command.page == PageUse::In,
+            _ => false,
+        }
     }
 
     /// Which way the data goes, as the host's pages see it; [`Direction::Source`] where it moves none.
     pub fn direction(self) -> Direction
         ensures { result ≡ direction_of self }
     {
-        match self {
-            Kind::Read => Direction::Destination,
-            _ => Direction::Source,
+        if self.brings_data() {
+            Direction::Destination
+        } else {
+            Direction::Source
         }
     }
 
@@ -72,10 +94,11 @@ impl Kind {
             Kind::WriteZeroes => io_opcode::WRITE_ZEROES,
             Kind::Verify => io_opcode::VERIFY,
             Kind::Flush => io_opcode::FLUSH,
+            Kind::Admin(command) => command.opcode,
         }
     }
 
-    /// Whether a command has so many blocks of a size: one to 1 MiB of them, and a Flush none.
+    /// Whether a command has so many blocks of a size: one to 1 MiB of them, and none where it names none.
     fn has_count(self, size: BlockSize, blocks: u32) -> bool
         ensures { result ≡ is_count self size blocks }
     {
@@ -95,6 +118,28 @@ impl Kind {
             u64::from(size.bytes_of(blocks))
         } else {
             0
+        }
+    }
+
+    /// Whether pieces, of which so many bytes count, are what a command of so many blocks of a size moves.
+    fn has_its_bytes(self, size: BlockSize, blocks: u32, pieces: &[Piece], counted: u64) -> bool
+        requires few { blocks ≤ most_blocks size }
+        requires counted { counted ≡ counted_lengths self pieces.now }
+        ensures { result ≡ spec_has_its_bytes self size blocks pieces.now }
+    {
+        match self {
+            Kind::Admin(command) => command.has_its_page(pieces),
+            _ => counted == self.need(size, blocks),
+        }
+    }
+
+    /// Whether it is an admin command that the host keeps to itself.
+    fn is_hosts_own(self) -> bool
+        ensures { result ≡ is_hosts_own self }
+    {
+        match self {
+            Kind::Admin(command) => command.is_hosts_own(),
+            _ => false,
         }
     }
 }
@@ -326,17 +371,21 @@ pub enum RequestFault {
     /// A data piece passes the end of its page.
     #[error("a data piece passes the end of its page")]
     CrossesPage,
-    /// There are no blocks, or more than 1 MiB of them; or a Flush has blocks.
+    /// There are no blocks, or more than 1 MiB of them; or a command that names none has blocks.
     #[error("a command has a block to 1 MiB of them, and a Flush none")]
     BadCount,
-    /// The pieces that count are not the bytes of the blocks; or a command that moves no data has a piece.
+    /// The pieces that count are not the bytes of the blocks; a command that moves no data has a piece; or the data of an admin
+    /// command is not one piece from the start of its page.
     #[error("the lengths of the pieces are not the bytes of the blocks")]
     LengthMismatch,
+    /// It is an admin command that the host keeps to itself ([`AdminCommand::is_hosts_own`]).
+    #[error("the host keeps this admin command to itself")]
+    HostsOwn,
 }
 
 /// What a host asks for: `blocks` blocks of a size from `slba` on, and the pieces of memory that take part, none where
 /// no data moves. A Flush has no blocks, and its `slba` and flags, which the standard reserves, are to be 0 and
-/// [`Flags::NONE`]. A host writes it as [`Request`]; contracts see the pieces as a list, whatever holds them.
+/// [`Flags::NONE`]. An admin command has no blocks, and its words in place of `slba` and flags. A host writes it as [`Request`]; contracts see the pieces as a list, whatever holds them.
 #[derive(Debug, Drop)]
 pub struct RequestOf<P> {
     /// Which command.
@@ -438,8 +487,14 @@ impl<A: Allocator> Request<A> {
         if !self.kind.has_count(self.block_size, self.blocks) {
             return Err(RequestFault::BadCount);
         }
-        if counted != self.kind.need(self.block_size, self.blocks) {
+        if !self
+            .kind
+            .has_its_bytes(self.block_size, self.blocks, pieces, counted)
+        {
             return Err(RequestFault::LengthMismatch);
+        }
+        if self.kind.is_hosts_own() {
+            return Err(RequestFault::HostsOwn);
         }
         Ok(())
     }

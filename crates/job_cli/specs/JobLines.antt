@@ -3,7 +3,7 @@ use Rattle.std.specs.{Fmt.decimal, Prelude.{ℕ, ◌+◌, Bool, false, not, List
 use Rattle.driver_threads.specs.{Values.JobEnd, declared.jobs.JobRefusal.JobRefusal}
 use Rattle.entry_codec.specs.Status.{is_success}
 use Rattle.entry_codec.specs.Status.{status_text}
-use Rattle.io_commands.specs.declared.{draft.FillFault.TheVariants.WrongLength, request.Kind.{Kind, TheVariants.{Read, Write, Compare, WriteZeroes, Verify, Flush}}}
+use Rattle.io_commands.specs.declared.{draft.FillFault.TheVariants.WrongLength, request.Kind.{Kind, TheVariants.{Read, Write, Compare, WriteZeroes, Verify, Flush, Admin}}}
 use Rattle.script_cli.specs.Replies.{gathered_text, request_fault_name, fill_fault_name}
 use Rattle.driver_threads.specs.declared.jobs.JobEnd.TheVariants as end
 use Rattle.driver_threads.specs.declared.jobs.JobRefusal.TheVariants as refusal
@@ -15,6 +15,7 @@ kind_text Compare = codes "compare"
 kind_text WriteZeroes = codes "write_zeroes"
 kind_text Verify = codes "verify"
 kind_text Flush = codes "flush"
+kind_text (Admin command) = codes "admin"
 
 abbrev pub too_few_text : ℕ → ℕ → List ℕ
 too_few_text need pool = codes "refused NoPages need " ++ (decimal need ++ (codes " pool " ++ decimal pool))

@@ -23,6 +23,7 @@ pub(crate) fn kind_name(kind: Kind) -> &'static str
         Kind::WriteZeroes => "write_zeroes",
         Kind::Verify => "verify",
         Kind::Flush => "flush",
+        Kind::Admin(_) => "admin",
     }
 }
 

@@ -52,6 +52,7 @@ impl fmt::Display for Bad {
             Kind::WriteZeroes => "write_zeroes",
             Kind::Verify => "verify",
             Kind::Flush => "flush",
+            Kind::Admin(_) => "admin",
         };
         let Bad {
             slba,

@@ -1,4 +1,4 @@
--- What no event of the host changes: the limits, the sizes of blocks that the host takes, the image, how many pages there are; and but for a reset the jobs, and that something was forged.
+-- What no event of the host changes: the limits, whom the host speaks to, the image, how many pages there are; and but for a reset the jobs, and that something was forged.
 use Rattle.machine_model.specs.After as a
 use Rattle.machine_model.specs.Events as events
 use Rattle.std.proofs.Common.{◌≡◌, ℕ, ◌==◌, Bool, true, false, Some, List, [], ◌∷◌, ◌++◌, length, length-set, filter, find, if◌then◌else◌, eqb-true, refl, ap, sym, ◌∙◌, inl, inr}
@@ -17,7 +17,7 @@ use Rattle.page_memory.proofs.Lists.{found_is}
 pub record HostLeaves (s : State) (e : Event) (t : State) : Type 0 where
   pub entries : t.entries ≡ s.entries
   pub segment : t.segment ≡ s.segment
-  pub block_sizes : t.host.block_sizes ≡ s.host.block_sizes
+  pub peer : t.host.peer ≡ s.host.peer
   pub image : t.controller.image ≡ s.controller.image
   -- a reset aside
   pub jobs : resets e ≡ false → t.controller.jobs ≡ s.controller.jobs
@@ -25,8 +25,8 @@ pub record HostLeaves (s : State) (e : Event) (t : State) : Type 0 where
   pub distrusts : resets e ≡ false → s.trusted ≡ false → t.trusted ≡ false
 
 -- where the memory alone changes of these
-left : {e : Event} (s t : State) → t.entries ≡ s.entries → t.segment ≡ s.segment → t.host.block_sizes ≡ s.host.block_sizes → t.controller.image ≡ s.controller.image → t.controller.jobs ≡ s.controller.jobs → (s.trusted ≡ false → t.trusted ≡ false) → length t.memory ≡ length s.memory → HostLeaves s e t
-left s t n g z i j d m = record { entries = n; segment = g; block_sizes = z; image = i; jobs = λ other. j; size = m; distrusts = λ other. d }
+left : {e : Event} (s t : State) → t.entries ≡ s.entries → t.segment ≡ s.segment → t.host.peer ≡ s.host.peer → t.controller.image ≡ s.controller.image → t.controller.jobs ≡ s.controller.jobs → (s.trusted ≡ false → t.trusted ≡ false) → length t.memory ≡ length s.memory → HostLeaves s e t
+left s t n g z i j d m = record { entries = n; segment = g; peer = z; image = i; jobs = λ other. j; size = m; distrusts = λ other. d }
 
 posted_size : (q : ℕ) (entry : SubEntry) (s : State) → length (posted_bytes q entry s) ≡ length s.memory
 posted_size q entry s = sym (length-in_store (posted_bytes q entry s)) ∙ ap length (posted_bits q entry s) ∙ length-in_store s.memory
@@ -63,7 +63,7 @@ host_leaves s e reply ok c =
       resets = record {
         entries = refl;
         segment = refl;
-        block_sizes = refl;
+        peer = refl;
         image = refl;
         jobs = λ other. absurd (true≢false other);
         size = length-with_pages (zeroed_pages (a.admin_pages s.host.queues)) s.memory;
@@ -74,16 +74,16 @@ host_leaves s e reply ok c =
     sent : {e : Event} (adm : AdminKind) (id : ℕ) (s : State) → HostLeaves s e (sends adm id s)
     sent adm id s = left s _ refl refl refl refl refl (λ d. d) (posted_size 0 (admin_entry adm id) (a.on_records (λ records. records ++ sent_record adm id ∷ []) s))
 
--- a host takes the same sizes of blocks after each event, and after each step, whatever was forged
-pub sizes_after : (s : State) (e : Event) (reply : Reply) → Accepts s e reply → (a.after s e reply).host.block_sizes ≡ s.host.block_sizes
-sizes_after s e reply ok = elim (cases_Bool (IsController e)) [
-  | inl c ↦ ap (λ (part : HostPart). part.host.block_sizes) (part_controller s e reply c)
-  | inr c ↦ (host_leaves s e reply ok c).block_sizes
+-- a host speaks to the same peer after each event, and after each step, whatever was forged
+pub peer_after : (s : State) (e : Event) (reply : Reply) → Accepts s e reply → (a.after s e reply).host.peer ≡ s.host.peer
+peer_after s e reply ok = elim (cases_Bool (IsController e)) [
+  | inl c ↦ ap (λ (part : HostPart). part.host.peer) (part_controller s e reply c)
+  | inr c ↦ (host_leaves s e reply ok c).peer
 ]
 
-pub sizes_stay : (old : State) (e : Event) (reply : Reply) (new : State) → Step old e reply new → new.host.block_sizes ≡ old.host.block_sizes
-sizes_stay old e reply new step =
-    each_step (λ (part : HostPart). part.host.block_sizes ≡ old.host.block_sizes) (λ s e reply ok c h. (host_leaves s e reply ok c).block_sizes ∙ h) old e reply new step refl
+pub peer_stays : (old : State) (e : Event) (reply : Reply) (new : State) → Step old e reply new → new.host.peer ≡ old.host.peer
+peer_stays old e reply new step =
+    each_step (λ (part : HostPart). part.host.peer ≡ old.host.peer) (λ s e reply ok c h. (host_leaves s e reply ok c).peer ∙ h) old e reply new step refl
 
 -- the record that a look-up finds has the queue and the identifier of that look-up
 pub ids_of : (s : State) (q cid : ℕ) (r : Record) → record_at s.host q cid ≡ Some r → (r.q ≡ q) × (r.cid ≡ cid)

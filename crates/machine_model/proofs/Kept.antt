@@ -1,11 +1,11 @@
 -- What each step keeps.
 use Rattle.machine_model.specs.After as a
 use Rattle.machine_model.specs.Events as events
-use Rattle.std.proofs.Common.{◌≡◌, ℕ, zero, suc, ◌==◌, Bool, true, false, ◌||◌, Option, Some, None, List, [], ◌∷◌, ◌++◌, map, slice_get, if◌then◌else◌, refl, ap, sym, ◌∙◌, arith, eq-eqb, subst, not, ◌&&◌, ◌+◌, ◌≤◌, nat_lt, length, filter, eqb-true, ltb-false}
+use Rattle.std.proofs.Common.{◌≡◌, ℕ, zero, suc, ◌==◌, Bool, true, false, ◌&&◌, ◌||◌, ◌⊎◌, inl, inr, eqb-true, not, Option, Some, None, List, [], ◌∷◌, ◌++◌, map, slice_get, if◌then◌else◌, refl, ap, sym, ◌∙◌, arith, eq-eqb, subst, not, ◌&&◌, ◌+◌, ◌≤◌, nat_lt, length, filter, eqb-true, ltb-false}
 use Rattle.std.{proofs.lemmas.Bool.{true≢false, not-false, or_parts, eqb-false}, specs.{List.AllByRecursion, Option.option_map_or}}
 use Rattle.admin_commands.specs.declared.AdminKind.{AdminKind, TheVariants.{Abort, DeleteSq, DeleteCq, CreateCq, CreateSq}}
 use Rattle.entry_codec.specs.{Status.is_success, declared.{completion.ComEntry.ComEntry, status.Status.Status}}
-use Rattle.io_commands.specs.Asked.{Request}
+use Rattle.io_commands.specs.{Asked.Request, Requests.is_admin}
 use Rattle.page_memory.specs.declared.page.Half.TheVariants.{Submission, Completion}
 use Rattle.queue_pair.specs.{Memory.half_pages, Rings.{HostRing, next_tail, next_head, knowing}}
 use Rattle.machine_model.proofs.Counting.{one, all_changed, total, total-append, total-map, total-filter}
@@ -14,7 +14,7 @@ use Rattle.machine_model.proofs.Owned.{HoldsPart, Awaited, awaits, length_awaits
 use Rattle.machine_model.{proofs.Steps.{Accepts, unrefused}, specs.{After.change, Agreeing.is_known_deleted}}
 use Rattle.machine_model.specs.{Claims.{DeletionsFit, CreationsFit, AdminLives, HasNoOtherPages, NewQueuesAreBare}, Commands.{Work, Io, Management}}
 use Rattle.machine_model.specs.{Events.{Event, Reply}, Opening.{queues_from, opening}}
-use Rattle.machine_model.specs.Refusals.{host_queue, has_cq_alone, is_asked, is_making_cq, is_making_sq, deletes_sq_of, creates_cq_of, creates_sq_of, is_live, is_deleted, has_sq, has_cq, in_service, is_reaped, is_making, in_state}
+use Rattle.machine_model.specs.Refusals.{host_queue, takes_admin, has_cq_alone, is_asked, is_making_cq, is_making_sq, deletes_sq_of, creates_cq_of, creates_sq_of, is_live, is_deleted, has_sq, has_cq, in_service, is_reaped, is_making, in_state}
 use Rattle.machine_model.specs.State.{State, Host, HostQueue, HostState, Live, Deleting, Retired, Gone, MakingCq, HalfMade, MakingSq, Record, record_at, with_record, without_record, is_at, outstanding_on}
 use Rattle.machine_model.specs.Step.{host_part, IsController}
 
@@ -461,13 +461,25 @@ bare_begins rs k f hs none h q making = grind (arith, total, eqb-true, at_other,
 bare_lists : (h : Host) → NewQueuesAreBare h → Bare h.records h.queues
 bare_lists h bare q making = sym (length_standing q h.records) ∙ bare q making
 
+-- a command is reserved on queue 0, or on a queue in service
+one_of : (takes admin first serves : Bool) → (if admin then not (takes && first) else first || not serves) ≡ false → (first ≡ true) ⊎ (serves ≡ true)
+one_of true true true serves h = inl refl
+one_of true true false serves h = absurd (true≢false h)
+one_of false true first serves h = absurd (true≢false h)
+one_of takes false true serves h = absurd (true≢false h)
+one_of takes false false true h = inr refl
+one_of takes false false false h = absurd (true≢false h)
+
 bare_of : (s : State) (e : Event) (reply : Reply) → Accepts s e reply → IsController e ≡ false → HoldsPart (host_part s) → Bare (a.after s e reply).host.records (a.after s e reply).host.queues
 bare_of s e reply ok c holds =
     host_moves (λ (e : Event) (reply : Reply) (t : State). Bare t.host.records t.host.queues) s e reply ok c
     (record {
       reserves = λ q request d none is.
-          let known = or_parts (q == 0) (not (in_state in_service s q)) (unrefused s (events.Reserve q request) none).0 in
-          bare_more s.host.records s.host.queues (drafted_record d) (ap (awaited_at is_making s.host.queues) is.queue ∙ (grind (arith, not-false _ known.1))) h;
+          bare_more s.host.records s.host.queues (drafted_record d) (ap (awaited_at is_making s.host.queues) is.queue
+          ∙ elim (one_of (takes_admin s.host.peer) (is_admin request.kind) (q == 0) (in_state in_service s q) (unrefused s (events.Reserve q request) none).0) [
+            | inl first ↦ ap (awaited_at is_making s.host.queues) (eqb-true q 0 first) ∙ zero_used
+            | inr serves ↦ grind (arith, serves)
+          ]) h;
       submits = λ d entry r none built its live. bare_ring _ d.q (next_tail s.entries) s.host.queues (bare_with d.q d.cid a.submitted (λ r'. refl) s.host.records s.host.queues h);
       cancels = λ d r its. bare_less d.q d.cid s.host.records s.host.queues h;
       rings = λ q none. h;

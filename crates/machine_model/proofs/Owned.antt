@@ -12,6 +12,7 @@ use Rattle.machine_model.specs.{Commands.{Work}, Memory.{is_in, with_pages, with
 use Rattle.machine_model.specs.State.{State, Host, HostQueue, Record, is_at, record_at, pages_of, without_record, Phase, Submitted, Held, HostState, with_record, Live, Gone, ServedQueue}
 use Rattle.machine_model.specs.Step.{times, HostPart, host_part}
 use Rattle.io_commands.specs.Values.{numbers_of}
+use Rattle.machine_model.specs.declared.words.Peer.{Peer}
 use Rattle.entry_codec.specs.declared.status.TheConstants.Status.{ABORTED_SQ_DELETION}
 use Rattle.std.proofs.lemmas.Grind.{common_steps}
 
@@ -54,13 +55,13 @@ owned_is p h = grind (arith, flat_map, firsts-append, first_of_claims, firsts_of
 pub record Owns (count : ℕ) (h : Host) : Type 0 where
   pub owner : (p : ℕ) → owned p h ≡ one (nat_lt p count)
   pub once : (q cid : ℕ) → total (here q cid) h.records < 2
-  pub admins : AllByRecursion (λ r. OwnsFit r.q r.work (pages_of r)) h.records
+  pub admins : AllByRecursion (λ r. OwnsFit h.peer r.q r.work (pages_of r)) h.records
 
 -- with what holds of queues that are deleted and made
 pub record Holds (count : ℕ) (h : Host) : Type 0 where
   pub owner : (p : ℕ) → owned p h ≡ one (nat_lt p count)
   pub once : (q cid : ℕ) → total (here q cid) h.records < 2
-  pub admins : AllByRecursion (λ r. OwnsFit r.q r.work (pages_of r)) h.records
+  pub admins : AllByRecursion (λ r. OwnsFit h.peer r.q r.work (pages_of r)) h.records
   pub deletions : DeletionsFit h
   pub creations : CreationsFit h
   pub bare : NewQueuesAreBare h
@@ -104,10 +105,10 @@ owns_queues count h queues same owns = record {
 }
 
 -- a change of records that keeps their pages and identifiers
-admins-map : (f : Record → Record) → ((r : Record) → (f r).q ≡ r.q) → ((r : Record) → (f r).work ≡ r.work) → ((r : Record) → pages_of (f r) ≡ pages_of r)
-    → (records : List Record) → AllByRecursion (λ r. OwnsFit r.q r.work (pages_of r)) records → AllByRecursion (λ r. OwnsFit r.q r.work (pages_of r)) (map f records)
-admins-map f q work pages [] all = tt
-admins-map f q work pages (r ∷ records) all = (rw (q r, work r, pages r) all.0, admins-map f q work pages records all.1)
+admins-map : (peer : Peer) (f : Record → Record) → ((r : Record) → (f r).q ≡ r.q) → ((r : Record) → (f r).work ≡ r.work) → ((r : Record) → pages_of (f r) ≡ pages_of r)
+    → (records : List Record) → AllByRecursion (λ r. OwnsFit peer r.q r.work (pages_of r)) records → AllByRecursion (λ r. OwnsFit peer r.q r.work (pages_of r)) (map f records)
+admins-map peer f q work pages [] all = tt
+admins-map peer f q work pages (r ∷ records) all = (rw (q r, work r, pages r) all.0, admins-map peer f q work pages records all.1)
 
 pub record KeepsRecord (f : Record → Record) : Type 0 where
   pub q : (r : Record) → (f r).q ≡ r.q
@@ -119,7 +120,7 @@ pub owns_map : (count : ℕ) (h : Host) (f : Record → Record) → KeepsRecord 
 owns_map count h f keeps owns = record {
   owner = λ p. omega (arith, owns.owner p, total-map (in_record p) f (λ r. ap (times p) (keeps.pages r)) h.records);
   once = λ q cid. omega (arith, owns.once q cid, total-map (here q cid) f (λ r. rw (keeps.q r, keeps.cid r) refl) h.records);
-  admins = admins-map f keeps.q keeps.work keeps.pages h.records owns.admins;
+  admins = admins-map h.peer f keeps.q keeps.work keeps.pages h.records owns.admins;
 }
 
 -- one record more
@@ -127,24 +128,24 @@ once_more : (records : List Record) (new : Record) → total (here new.q new.cid
     → (q cid : ℕ) → total (here q cid) (records ++ new ∷ []) < 2
 once_more records new unused once q cid = grind (arith, eqb-true, total, here, total-append)
 
-admins_more : (records : List Record) (new : Record) → OwnsFit new.q new.work (pages_of new)
-    → AllByRecursion (λ r. OwnsFit r.q r.work (pages_of r)) records → AllByRecursion (λ r. OwnsFit r.q r.work (pages_of r)) (records ++ new ∷ [])
-admins_more [] new fit all = (fit, tt)
-admins_more (r ∷ records) new fit all = (all.0, admins_more records new fit all.1)
+admins_more : (peer : Peer) (records : List Record) (new : Record) → OwnsFit peer new.q new.work (pages_of new)
+    → AllByRecursion (λ r. OwnsFit peer r.q r.work (pages_of r)) records → AllByRecursion (λ r. OwnsFit peer r.q r.work (pages_of r)) (records ++ new ∷ [])
+admins_more peer [] new fit all = (fit, tt)
+admins_more peer (r ∷ records) new fit all = (all.0, admins_more peer records new fit all.1)
 
-pub owns_more : (count : ℕ) (h : Host) (new : Record) (free : List ℕ) → total (here new.q new.cid) h.records ≡ 0 → OwnsFit new.q new.work (pages_of new)
+pub owns_more : (count : ℕ) (h : Host) (new : Record) (free : List ℕ) → total (here new.q new.cid) h.records ≡ 0 → OwnsFit h.peer new.q new.work (pages_of new)
     → ((p : ℕ) → times p free + times p (pages_of new) ≡ times p h.free)
     → Owns count h → Owns count (record h { free = free; records = h.records ++ new ∷ [] })
 owns_more count h new free unused fit moved owns = record {
   owner = λ p. omega (arith, owns.owner p, moved p, total-append (in_record p) h.records (new ∷ []));
   once = once_more h.records new unused owns.once;
-  admins = admins_more h.records new fit owns.admins;
+  admins = admins_more h.peer h.records new fit owns.admins;
 }
 
 -- one record less
-admins-filter : (f : Record → Bool) (records : List Record) → AllByRecursion (λ r. OwnsFit r.q r.work (pages_of r)) records → AllByRecursion (λ r. OwnsFit r.q r.work (pages_of r)) (filter f records)
-admins-filter f [] all = tt
-admins-filter f (r ∷ records) all = grind (arith, admins-filter f records all.1)
+admins-filter : (peer : Peer) (f : Record → Bool) (records : List Record) → AllByRecursion (λ r. OwnsFit peer r.q r.work (pages_of r)) records → AllByRecursion (λ r. OwnsFit peer r.q r.work (pages_of r)) (filter f records)
+admins-filter peer f [] all = tt
+admins-filter peer f (r ∷ records) all = grind (arith, admins-filter peer f records all.1)
 
 pub owns_less : (count : ℕ) (h : Host) (q cid : ℕ) (r : Record) (free : List ℕ) → record_at h q cid ≡ Some r
     → ((p : ℕ) → times p free ≡ times p h.free + in_record p r)
@@ -152,7 +153,7 @@ pub owns_less : (count : ℕ) (h : Host) (q cid : ℕ) (r : Record) (free : List
 owns_less count h q cid r free found moved owns = record {
   owner = λ p. omega (arith, owns.owner p, moved p, total_without (in_record p) q cid h.records r found (owns.once q cid));
   once = λ q' cid'. omega (arith, owns.once q' cid', total-filter (here q' cid') (λ r'. not (is_at q cid r')) h.records);
-  admins = admins-filter (λ r'. not (is_at q cid r')) h.records owns.admins;
+  admins = admins-filter h.peer (λ r'. not (is_at q cid r')) h.records owns.admins;
 }
 
 -- A page is out where a drafted or collected command has it: what each host event does to that.
@@ -388,11 +389,11 @@ all_reset P Q each (r ∷ rs) all = elim (cases_Bool (a.is_of_io r.work)) [
 ]
 
 -- its pages: an admin command has none
-pub reset_pages : (p : ℕ) (rs : List Record) → AllByRecursion (λ r. OwnsFit r.q r.work (pages_of r)) rs → total (in_record p) (a.reset_records rs) ≡ total (in_record p) rs
-reset_pages p rs fit = grind (arith, reset_total, lost_keeps, io_total)
+pub reset_pages : (peer : Peer) (p : ℕ) (rs : List Record) → AllByRecursion (λ r. OwnsFit peer r.q r.work (pages_of r)) rs → total (in_record p) (a.reset_records rs) ≡ total (in_record p) rs
+reset_pages peer p rs fit = grind (arith, reset_total, lost_keeps, io_total)
 
-pub reset_taken : (p : ℕ) (rs : List Record) → AllByRecursion (λ r. OwnsFit r.q r.work (pages_of r)) rs → total (taken p) (a.reset_records rs) ≡ total (taken p) rs
-reset_taken p rs fit = grind (arith, reset_total, lost_taken, io_total)
+pub reset_taken : (peer : Peer) (p : ℕ) (rs : List Record) → AllByRecursion (λ r. OwnsFit peer r.q r.work (pages_of r)) rs → total (taken p) (a.reset_records rs) ≡ total (taken p) rs
+reset_taken peer p rs fit = grind (arith, reset_total, lost_taken, io_total)
 
 -- Queues
 

@@ -1,8 +1,8 @@
 -- A sound state stays sound.
 use Rattle.machine_model.specs.After as a
 use Rattle.machine_model.specs.Events as events
-use Rattle.std.proofs.Common.{◌≡◌, ℕ, zero, suc, ◌+◌, ◌<◌, Bool, true, false, ◌||◌, Some, List, [], find, slice_get, refl, ap, sym, ◌∙◌, arith, eq-eqb, ◌≤◌, ◌==◌, nat_lt, ◌&&◌, None, ◌∷◌, ◌++◌, length, map, is_some, if◌then◌else◌, subst, length-set, inl, inr}
-use Rattle.std.{proofs.lemmas.Bool.{cases_Bool}}
+use Rattle.std.proofs.Common.{◌≡◌, ℕ, zero, suc, ◌+◌, ◌<◌, Bool, true, false, ◌||◌, not, Some, List, [], find, slice_get, refl, ap, sym, ◌∙◌, arith, eq-eqb, ◌≤◌, ◌==◌, nat_lt, ◌&&◌, None, ◌∷◌, ◌++◌, length, map, is_some, if◌then◌else◌, subst, length-set, inl, inr}
+use Rattle.std.{proofs.lemmas.Bool.{cases_Bool, true≢false}}
 use Rattle.entry_codec.specs.{Status.is_success, declared.{completion.ComEntry.ComEntry, status.{Status.Status, TheConstants.Status.ABORTED_SQ_DELETION}}}
 use Rattle.entry_codec.specs.declared.submission.SubEntry.{SubEntry}
 use Rattle.entry_codec.specs.declared.hints.TheConstants.Hints.{NONE}
@@ -17,11 +17,12 @@ use Rattle.machine_model.proofs.Steps.{Accepts, IsKept, in_store, length-in_stor
 use Rattle.machine_model.specs.{After.change, Claims.{DeletionsFit, CreationsFit, OwnsFit, HasNoOtherPages}, Commands.{Work, Management, Io}}
 use Rattle.machine_model.specs.{Events.{Event, Reply, Reaped}, Memory.{with_pages, without_pages, zeroed_pages}, Opening.{opening, queues_from}}
 use Rattle.machine_model.specs.Placement.{without_numbers}
-use Rattle.machine_model.specs.Refusals.{is_asked, is_making_cq, is_making_sq, deletes_sq_of, creates_cq_of, creates_sq_of, slot_page, slot_offset, host_queue, refusal_of, is_submitted, has_sq, has_cq, is_drafted, is_held}
+use Rattle.machine_model.specs.Refusals.{is_asked, is_making_cq, is_making_sq, deletes_sq_of, creates_cq_of, creates_sq_of, slot_page, slot_offset, host_queue, refusal_of, is_submitted, has_sq, has_cq, is_drafted, is_held, in_service, in_state, lacks_queue, takes_admin}
 use Rattle.machine_model.specs.State.{State, Host, HostQueue, HostState, Live, Record, is_at, Held, Drafted, Deleting, record_at, pages_of, with_record, without_record, Phase}
 use Rattle.machine_model.specs.Step.{HostPart, host_part, IsController, IsNewIdentifier, times, reaped}
 use Rattle.page_ledger.specs.Owners.{is_among}
-use Rattle.io_commands.specs.{Asked.Request, Drafts.DraftContents, Values.numbers_of}
+use Rattle.io_commands.specs.{Asked.Request, Drafts.DraftContents, Requests.is_admin, Values.numbers_of}
+use Rattle.machine_model.specs.declared.words.Peer.{Peer, TheVariants.Modelled}
 pub use Rattle.machine_model.proofs.Moves.{named, status_in}
 use Rattle.std.proofs.lemmas.Grind.{common_steps}
 use Rattle.page_memory.proofs.Lists.{all-at}
@@ -206,17 +207,17 @@ few_free count p h holds = omega (arith, holds.owner p)
 at_most_one : (b : Bool) → one b ≤ 1
 at_most_one b = grind arith
 
-ok-reserve : (s : State) (d : DraftContents) → (d.q == 0) ≡ false → IsNewIdentifier s d.q d.cid
+ok-reserve : (s : State) (d : DraftContents) → (d.q == 0) ≡ (takes_admin s.host.peer && is_admin d.request.kind) → IsNewIdentifier s d.q d.cid
     → ((p : ℕ) → times p (numbers_of d.data_pages ++ numbers_of d.chain_pages) ≡ (if is_among (numbers_of d.data_pages ++ numbers_of d.chain_pages) p && is_among s.host.free p then 1 else 0))
     → Ok s → Ok (a.after_reserve d s)
-ok-reserve s d other new are h =
+ok-reserve s d fit new are h =
     let pages = numbers_of d.data_pages ++ numbers_of d.chain_pages in
     let record' : Record = record { q = d.q; cid = d.cid; phase = Drafted; work = Io d.request; data_pages = numbers_of d.data_pages; chain_pages = numbers_of d.chain_pages; status = None; hints = NONE } in
     let count = length (in_store s.memory) in
     recount count (length (in_store (without_pages pages s.memory)))
     (record s.host { free = without_numbers pages s.host.free; records = s.host.records ++ record' ∷ [] })
     (length-in_store s.memory ∙ sym (length-without_pages pages s.memory) ∙ sym (length-in_store (without_pages pages s.memory)))
-    (owns_more count s.host record' (without_numbers pages s.host.free) (unused s d.q d.cid new) other
+    (owns_more count s.host record' (without_numbers pages s.host.free) (unused s d.q d.cid new) fit
     (λ p. let few = few_free count p s.host h in times_granted p pages s.host.free (are p) (omega (arith, at_most_one (nat_lt p count))))
     h)
 
@@ -296,23 +297,47 @@ ok-reset s h =
           let few : times p s.host.free + times p (a.io_pages s.host.queues) ≤ one (nat_lt p count) = omega (arith, h.owner p, reset_halves p s.host.queues) in
           let few' : times p s.host.free + times p (a.io_pages s.host.queues) ≤ one (nat_lt p count') =
           subst (λ (k : ℕ). times p s.host.free + times p (a.io_pages s.host.queues) ≤ one (nat_lt p k)) (length-in_store s.memory) few in
-          omega (arith, h.owner p, reset_halves p s.host.queues, reset_pages p s.host.records h.admins, times_joined p count' (a.io_pages s.host.queues) s.host.free few');
+          omega (arith, h.owner p, reset_halves p s.host.queues, reset_pages s.host.peer p s.host.records h.admins, times_joined p count' (a.io_pages s.host.queues) s.host.free few');
       once = λ q cid. omega (arith, h.once q cid, reset_fewer (here q cid) (λ r. rw (lost_keeps.q r, lost_keeps.cid r) refl) s.host.records);
-      admins = all_reset (λ r. OwnsFit r.q r.work (pages_of r)) (λ r. OwnsFit r.q r.work (pages_of r)) (λ r io f. rw (lost_keeps.q r, lost_keeps.work r, lost_keeps.pages r) f) s.host.records h.admins;
+      admins = all_reset (λ r. OwnsFit s.host.peer r.q r.work (pages_of r)) (λ r. OwnsFit s.host.peer r.q r.work (pages_of r)) (λ r io f. rw (lost_keeps.q r, lost_keeps.work r, lost_keeps.pages r) f) s.host.records h.admins;
     })
 
 -- Every accepted event of the host
 
--- a queue on which something is reserved is an I/O queue
-pub io_queue : (s : State) (q : ℕ) (r : Request) → refusal_of s (events.Reserve q r) ≡ None → (q == 0) ≡ false
-io_queue s q r none = grind (arith, first_fails, is_some, nat_lt, length, none)
+-- a command is reserved on queue 0 exactly where it is an admin command, if the host takes any
+queue_of_kind : (takes admin first out : Bool) → (if admin then not (takes && first) else first || out) ≡ false → first ≡ (takes && admin)
+queue_of_kind true true true out h = refl
+queue_of_kind true true false out h = absurd (true≢false h)
+queue_of_kind false true first out h = absurd (true≢false h)
+queue_of_kind true false true out h = absurd (true≢false h)
+queue_of_kind true false false out h = refl
+queue_of_kind false false true out h = absurd (true≢false h)
+queue_of_kind false false false out h = refl
+
+has_queue : (s : State) (q : ℕ) (r : Request) → refusal_of s (events.Reserve q r) ≡ None → lacks_queue s q r.kind ≡ false
+has_queue s q r none = grind (arith, first_fails, is_some, nat_lt, length, none)
+
+pub reserve_fits : (s : State) (q : ℕ) (r : Request) → refusal_of s (events.Reserve q r) ≡ None → (q == 0) ≡ (takes_admin s.host.peer && is_admin r.kind)
+reserve_fits s q r none = queue_of_kind (takes_admin s.host.peer) (is_admin r.kind) (q == 0) (not (in_state in_service s q)) (has_queue s q r none)
+
+-- so a host that speaks to the modelled controller takes it on an I/O queue alone, and it is no admin command
+pub io_queue : (s : State) (q : ℕ) (r : Request) → s.host.peer ≡ Modelled → refusal_of s (events.Reserve q r) ≡ None → (q == 0) ≡ false
+io_queue s q r modelled none = reserve_fits s q r none ∙ ap (λ (peer : Peer). takes_admin peer && is_admin r.kind) modelled
+
+no_admin : (takes admin first out : Bool) → takes ≡ false → (if admin then not (takes && first) else first || out) ≡ false → admin ≡ false
+no_admin takes false first out never h = refl
+no_admin false true first out never h = absurd (true≢false h)
+no_admin true true first out never h = absurd (true≢false never)
+
+pub of_blocks : (s : State) (q : ℕ) (r : Request) → s.host.peer ≡ Modelled → refusal_of s (events.Reserve q r) ≡ None → is_admin r.kind ≡ false
+of_blocks s q r modelled none = no_admin (takes_admin s.host.peer) (is_admin r.kind) (q == 0) (not (in_state in_service s q)) (ap takes_admin modelled) (has_queue s q r none)
 
 owns_event : (s : State) (e : Event) (reply : Reply) → Accepts s e reply → IsController e ≡ false → HoldsPart (host_part s) → OwnsPart (host_part (a.after s e reply))
 owns_event s e reply ok c holds =
     let others : (q : ℕ) (queue : HostQueue) → host_queue s q ≡ Some queue → HasNoOtherPages queue = λ q queue there. all-at HasNoOtherPages s.host.queues q queue there holds.halves in
     host_moves (λ (e : Event) (reply : Reply) (t : State). Ok t) s e reply ok c
     (record {
-      reserves = λ q request d none is. ok-reserve s d (ap (λ (k : ℕ). k == 0) is.queue ∙ io_queue s q request none) (subst (λ (k : ℕ). IsNewIdentifier s k d.cid) (sym is.queue) is.identifier) is.free h;
+      reserves = λ q request d none is. ok-reserve s d (ap (λ (k : ℕ). k == 0) is.queue ∙ reserve_fits s q request none ∙ ap (λ (r : Request). takes_admin s.host.peer && is_admin r.kind) (sym is.request)) (subst (λ (k : ℕ). IsNewIdentifier s k d.cid) (sym is.queue) is.identifier) is.free h;
       submits = λ d entry r none built its live.
           let s1 = a.on_memory (with_pages (d.data_pages ++ d.chain_pages)) s in
           ok-posted d.q entry (a.on_records (with_record d.q d.cid a.submitted) s1)
@@ -372,7 +397,7 @@ owns_event s e reply ok c holds =
     -- an admin command owns no page
     ended : (q cid : ℕ) (e : ComEntry) (r : Record) (adm : AdminKind) → record_at s.host q cid ≡ Some r → r.work ≡ Management adm → Ok (heard_without q cid e s)
     ended q cid e r adm at w =
-        let fit : OwnsFit r.q (Management adm) (pages_of r) = rw w at (found_all (λ r'. OwnsFit r'.q r'.work (pages_of r')) (is_at q cid) s.host.records r at h.admins) in
+        let fit : OwnsFit s.host.peer r.q (Management adm) (pages_of r) = rw w at (found_all (λ r'. OwnsFit s.host.peer r'.q r'.work (pages_of r')) (is_at q cid) s.host.records r at h.admins) in
         let t = a.heard q e s in
         owns_less (length (in_store t.memory)) t.host q cid r t.host.free at (λ p. omega (arith, ap (times p) fit.1)) (told q e)
 
@@ -442,14 +467,14 @@ reset_in s holds h p l =
     let among : is_among (numbers_of (zeroed_pages pages)) p ≡ is_among pages p = ap (λ (ps : List ℕ). is_among ps p) (zeroed_numbers pages) in
     elim (cases_Bool (is_among pages p)) [
       | inl e ↦ in_same (zeroed_pages pages) s.memory p (among ∙ e) l' ∙ ap Some (sym (none_here _ (untaken e)))
-      | inr e ↦ in_other (zeroed_pages pages) s.memory p (among ∙ e) ∙ h p (omega (arith, l', length-in_store s.memory)) ∙ ap (λ n. Some (none n)) (sym (reset_taken p s.host.records holds.admins))
+      | inr e ↦ in_other (zeroed_pages pages) s.memory p (among ∙ e) ∙ h p (omega (arith, l', length-in_store s.memory)) ∙ ap (λ n. Some (none n)) (sym (reset_taken s.host.peer p s.host.records holds.admins))
     ]
   where
     pages : List ℕ
     pages = a.admin_pages s.host.queues
 
     untaken : is_among pages p ≡ true → total (taken p) (a.reset_records s.host.records) ≡ 0
-    untaken e = grind (arith, reset_taken, taken_le, held_once, admin_has, small, in_store, common_steps)
+    untaken e = grind (arith, reset_taken s.host.peer p s.host.records holds.admins, taken_le, held_once, admin_has, small, in_store, common_steps)
 
 -- records change and the store doesn't
 same_taken : (s : State) (records : List Record) → ((p : ℕ) → total (taken p) records ≡ total (taken p) s.host.records) → Fits s → Taken (in_store s.memory) records

@@ -314,7 +314,7 @@ pub reset_command : (m : Pages) (ds : List ServedQueue) (js : List Job) (r : Rec
 reset_command m ds js r sized =
     lost_by (λ (x : Record). CommandStands m ds js x) r (λ quiet. stands_quiet m ds js r r.work quiet sized)
     (λ sub. stands_quiet m ds js (a.aborted r) r.work refl
-    (λ request w. let is = sized request w in record { fits = is.fits; good = is.good; size = is.size; pages = is.pages }))
+    (λ request w. let is = sized request w in record { fits = is.fits; good = is.good; blocks = is.blocks; size = is.size; pages = is.pages }))
 
 pub reset_places : (hs : List HostQueue) (rs : List Record) (ds : List ServedQueue) → CommandsStandOnce hs rs (a.reset_served_queues ds) []
 reset_places hs rs ds q w = grind (arith, total, no_completions_at, no_unfetched)

@@ -386,7 +386,7 @@ after_complete q cid s =
 
 -- The reset: the controller comes up with its admin queue alone, and the host has the pages of its I/O queues back
 
--- an I/O command stays outstanding, and is lost where it was submitted; an admin command goes
+-- a command of the caller's stays outstanding, and is lost where it was submitted; one that the host sends itself goes
 abbrev pub is_of_io : Work → Bool
 is_of_io (Io r) = true
 is_of_io (Management a) = false
@@ -421,7 +421,7 @@ io_pages [] = []
 io_pages (queue ∷ queues) = flat_map halves_of queues
 
 abbrev pub reset_host : ℕ → Host → Host
-reset_host count h = record { block_sizes = h.block_sizes; free = joined_in_order count (io_pages h.queues) h.free; queues = reset_queues h.queues; records = reset_records h.records }
+reset_host count h = record { peer = h.peer; free = joined_in_order count (io_pages h.queues) h.free; queues = reset_queues h.queues; records = reset_records h.records }
 
 -- the controller: no job, no entry, no completion; of its queues the first alone is there
 abbrev pub reset_controller_admin : ServedQueue

@@ -8,7 +8,7 @@ use Rattle.queue_pair.specs.{Memory.half_pages, Rings.fresh_host_ring, Slots.dis
 use Rattle.machine_model.specs.{Claims.IsSound, Commands.{Work, Io, Management}, Positions.StandsInRings}
 use Rattle.machine_model.specs.{Refusals.{has_sq, has_cq, in_service, is_gone, is_making, is_live}, Standing.{CommandStands, HasUnitLeft, unfetched_at}}
 use Rattle.machine_model.specs.State.{State, HostQueue, HostState, Live, Deleting, MakingSq, ServedQueue, Record, Job, PostedCompletion, is_at}
-use Rattle.machine_model.specs.declared.words.BlockSizes.TheVariants.{Only512}
+use Rattle.machine_model.specs.declared.words.Peer.TheVariants.{Modelled}
 use Rattle.machine_model.specs.Weights.{one, total, here, sent}
 
 -- A queue on both sides
@@ -235,7 +235,7 @@ pub record SidesAgree (s : State) : Type 0 where
   pub sound : IsSound s
   pub rings : StandsInRings s
   -- the limits of the world
-  pub only_512 : s.host.block_sizes ≡ Only512
+  pub modelled : s.host.peer ≡ Modelled
   pub some_entries : 0 < s.entries
   pub few_queues : length s.host.queues ≤ 65536
   pub few_pages : length s.memory ≤ 65536

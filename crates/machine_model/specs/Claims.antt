@@ -4,8 +4,10 @@ use Rattle.std.specs.Prelude.{◌≡◌, ℕ, ◌+◌, ◌<◌, ◌==◌, nat_lt
 use Rattle.page_ledger.specs.{Counting.total, Owners.is_among, declared.owner.{Counts.Counts, Owner.{Owner, TheVariants.{Free, Queue, Command}}}}
 use Rattle.page_ledger.specs.declared.owner.Role.TheVariants.{Data, Chain}
 use Rattle.machine_model.specs.{Commands.{Work, Io, Management}, Events.{Event, Reply}, Memory.is_in, Opening.{opening, Opens}}
-use Rattle.machine_model.specs.Refusals.{is_drafted, is_collected, is_asked, is_live, is_making, is_making_cq, is_making_sq, has_sq, has_cq, deletes_sq_of, creates_cq_of, creates_sq_of}
+use Rattle.machine_model.specs.Refusals.{is_drafted, is_collected, is_asked, is_live, is_making, is_making_cq, is_making_sq, has_sq, has_cq, deletes_sq_of, creates_cq_of, creates_sq_of, takes_admin}
 use Rattle.machine_model.specs.{Run.Run, State.{State, Host, HostQueue, Record, outstanding_on, pages_of}, Step.{Step, times}}
+use Rattle.io_commands.specs.Requests.{is_admin}
+use Rattle.machine_model.specs.declared.words.Peer.{Peer}
 use Rattle.page_memory.specs.declared.page.Half.TheVariants.{Submission, Completion}
 
 abbrev pub claimed : Owner → List ℕ → List (ℕ × Owner)
@@ -48,10 +50,11 @@ abbrev pub IsOutWithItsCommand : State → Type 0
 IsOutWithItsCommand s =
     (p : ℕ) → p < length s.memory → is_in s.memory p ≡ not (list_any (λ r. is_away r && is_among (pages_of r) p) s.host.records)
 
--- an I/O command isn't on queue 0; an admin command is, and owns no page
-abbrev pub OwnsFit : ℕ → Work → List ℕ → Type 0
-OwnsFit q (Io r) pages = (q == 0) ≡ false
-OwnsFit q (Management a) pages = (q ≡ 0) × (pages ≡ [])
+-- a command of the caller's is on queue 0 exactly where it is an admin command, if the host takes any; one that the host sends itself is,
+-- and owns no page
+abbrev pub OwnsFit : Peer → ℕ → Work → List ℕ → Type 0
+OwnsFit peer q (Io r) pages = (q == 0) ≡ (takes_admin peer && is_admin r.kind)
+OwnsFit peer q (Management a) pages = (q ≡ 0) × (pages ≡ [])
 
 -- one deletion of a queue's submission side is outstanding where the host waits for it, and none elsewhere
 abbrev pub DeletionsFit : Host → Type 0
@@ -85,7 +88,7 @@ pub record IsSound (s : State) : Type 0 where
   pub counted : total (counts_of s.host) ≡ length s.memory
   pub identifiers : IdentifiersDiffer s.host
   pub out : IsOutWithItsCommand s
-  pub works_fit : AllByRecursion (λ r. OwnsFit r.q r.work (pages_of r)) s.host.records
+  pub works_fit : AllByRecursion (λ r. OwnsFit s.host.peer r.q r.work (pages_of r)) s.host.records
   pub deletions : DeletionsFit s.host
   pub creations : CreationsFit s.host
   pub bare : NewQueuesAreBare s.host

@@ -6,7 +6,7 @@ use Rattle.controller_walk.specs.Units.{first_passing}
 use Rattle.page_memory.specs.{Pages.zero_page, declared.page.Half.TheVariants.{Submission, Completion}}
 use Rattle.machine_model.specs.State.{State, HostQueue, ServedQueue, Live}
 use Rattle.queue_pair.specs.{Memory.half_pages, Rings.fresh_host_ring}
-use Rattle.machine_model.specs.declared.words.BlockSizes.TheVariants.{Only512}
+use Rattle.machine_model.specs.declared.words.Peer.TheVariants.{Modelled}
 pub use Rattle.machine_model.specs.declared.words.OpenRefusal.{OpenRefusal}
 pub use Rattle.machine_model.specs.declared.words.OpenRefusal.TheVariants.{BadConfig, NoPages, Memory}
 
@@ -51,7 +51,7 @@ opening pages queues n s image =
       segment = s;
       memory = replicate pages (Some zero_page);
       host = record {
-        block_sizes = Only512;
+        peer = Modelled;
         free = drop (pages_of_queues queues n) (pages_from 0 pages);
         queues = queues_from 0 n (queues + 1);
         records = [];

@@ -7,12 +7,12 @@ use Rattle.page_memory.specs.{Pages.{Pages, page_at}, declared.page.Half.{Half, 
 use Rattle.entry_codec.specs.{Completion.completion_of, Status.is_success, declared.{admin_opcode.TheConstants.DELETE_IO_SQ, completion.ComEntry.ComEntry, hints.TheConstants.Hints.NONE}}
 use Rattle.entry_codec.specs.declared.submission.SubEntry.{SubEntry}
 use Rattle.admin_commands.specs.{Entries.named_queue, Verdicts.is_live as is_running, declared.AdminKind.TheVariants.{DeleteSq, DeleteCq, CreateCq, CreateSq}}
-use Rattle.io_commands.specs.{Asked.Request, BlockSizes.block_bytes, Requests.fault_of, Values.numbers_of, declared.request.{Flags.Flags, Kind.Kind}}
-use Rattle.io_commands.specs.declared.request.{Kind.TheVariants.{Read, Write, Compare, WriteZeroes, Verify, Flush}, Piece.{Piece, TheVariants.{Data, Bucket}}, RequestFault.RequestFault}
+use Rattle.io_commands.specs.{Asked.Request, BlockSizes.block_bytes, Requests.{fault_of, is_admin}, Values.numbers_of, declared.{admin.{AdminCommand.AdminCommand, PageUse.{PageUse, TheVariants.{Nothing, In, Out}}}, request.{Flags.Flags, Kind.Kind}}}
+use Rattle.io_commands.specs.declared.request.{Kind.TheVariants.{Read, Write, Compare, WriteZeroes, Verify, Flush, Admin}, Piece.{Piece, TheVariants.{Data, Bucket}}, RequestFault.RequestFault}
 use Rattle.controller_walk.specs.Units.{first_passing}
 use Rattle.queue_pair.specs.{Memory.{with_phase, half_pages}, Slots.{is_full, moved}}
 use Rattle.io_commands.specs.declared.block_size.BlockSize.{BlockSize, TheVariants.{Bytes512}}
-use Rattle.machine_model.specs.declared.words.BlockSizes.{BlockSizes, TheVariants.{Only512, Any}}
+use Rattle.machine_model.specs.declared.words.Peer.{Peer, TheVariants.{Modelled, Device}}
 use Rattle.machine_model.specs.Events as events
 
 -- Looking things up
@@ -138,6 +138,16 @@ same_pieces [] (y ∷ ys) = false
 same_pieces (x ∷ xs) [] = false
 same_pieces (x ∷ xs) (y ∷ ys) = same_piece x y && same_pieces xs ys
 
+abbrev pub same_use : PageUse → PageUse → Bool
+same_use Nothing Nothing = true
+same_use In In = true
+same_use Out Out = true
+same_use a b = false
+
+abbrev pub same_command : AdminCommand → AdminCommand → Bool
+same_command a b =
+    (a.opcode == b.opcode) && same_use a.page b.page && (a.cdw10 == b.cdw10) && (a.cdw11 == b.cdw11) && (a.cdw12 == b.cdw12) && (a.cdw13 == b.cdw13) && (a.cdw14 == b.cdw14) && (a.cdw15 == b.cdw15)
+
 abbrev pub same_kind : Kind → Kind → Bool
 same_kind Read Read = true
 same_kind Write Write = true
@@ -145,6 +155,7 @@ same_kind Compare Compare = true
 same_kind WriteZeroes WriteZeroes = true
 same_kind Verify Verify = true
 same_kind Flush Flush = true
+same_kind (Admin a) (Admin b) = same_command a b
 same_kind a b = false
 
 abbrev pub same_flags : Flags → Flags → Bool
@@ -286,18 +297,27 @@ job_is test s q cid = option_map_or test (job_at s q cid) false
 abbrev pub no_io_queue : State → ℕ → Bool
 no_io_queue s q = (q == 0) || not (in_state in_service s q)
 
+-- whether a host takes admin commands of the caller's own
+abbrev pub takes_admin : Peer → Bool
+takes_admin Device = true
+takes_admin Modelled = false
+
+-- whether no queue of this number takes a command of a kind: queue 0 takes admin commands, and an I/O queue in service the others
+abbrev pub lacks_queue : State → ℕ → Kind → Bool
+lacks_queue s q kind = if is_admin kind then not (takes_admin s.host.peer && (q == 0)) else no_io_queue s q
+
 -- whether a host takes blocks of a size
-abbrev pub takes : BlockSizes → BlockSize → Bool
-takes Any size = true
-takes Only512 Bytes512 = true
-takes Only512 size = false
+abbrev pub takes : Peer → BlockSize → Bool
+takes Device size = true
+takes Modelled Bytes512 = true
+takes Modelled size = false
 
 abbrev pub reserve_causes : State → ℕ → Request → Option RequestFault → List (Bool × Refusal)
 reserve_causes s q r bad =
-    (no_io_queue s q, events.NoQueue)
+    (lacks_queue s q r.kind, events.NoQueue)
     ∷ (in_state is_deleting s q, events.Deleting)
     ∷ (is_some bad, option_map_or events.Bad bad events.NoQueue)
-    ∷ (not (takes s.host.block_sizes r.block_size), events.OtherBlocks)
+    ∷ (not (takes s.host.peer r.block_size), events.OtherBlocks)
     ∷ (no_identifier s q, events.NoIdentifier)
     ∷ (nat_lt (length s.host.free) (pages_wanted s r), events.NoPages (pages_wanted s r) (length s.host.free))
     ∷ []

@@ -7,9 +7,9 @@ use Rattle.machine_model.specs.{Refusals.{refusal_of, next_rung, job_at, post_pa
 use Rattle.machine_model.specs.{Step.{reaped, touched_by_fetch, touched_by_refusal, finished_from}, Touch.{stays_allowed, stays_own}}
 use Rattle.page_ledger.specs.Owners.{is_among, pages_from}
 use Rattle.controller_walk.specs.{Units.{touched as pages_touched, first_passing}, declared.walk.WalkState.WalkState}
-use Rattle.io_commands.specs.{Asked.Request, DataBytes.{data_length, filled}, Drafts.{DraftContents, built}}
+use Rattle.io_commands.specs.{Asked.Request, DataBytes.{data_length, filled}, Drafts.{DraftContents, built}, Requests.brings_data}
 use Rattle.io_commands.specs.{Values.{FinishedContents, numbers_of, gathered_from}, declared.draft.FillFault.{FillFault, TheVariants.{NotASource, WrongLength}}}
-use Rattle.io_commands.specs.declared.request.{Kind.{Kind, TheVariants.Read}, Piece.Piece, TheConstants.Flags.NONE}
+use Rattle.io_commands.specs.declared.request.{Kind.Kind, Piece.Piece, TheConstants.Flags.NONE}
 use Rattle.io_commands.specs.declared.block_size.BlockSize.TheVariants.{Bytes512}
 use Rattle.page_memory.specs.Pages.{page_at}
 use Rattle.entry_codec.specs.declared.status.Status.{Status}
@@ -87,10 +87,6 @@ chosen s q r =
 
 -- A draft's own calls
 
-abbrev pub is_source : Kind → Bool
-is_source Read = false
-is_source kind = true
-
 abbrev pub filled_draft : List ℕ → DraftContents → DraftContents
 filled_draft bytes d =
     let whole = sum_by data_length d.request.pieces in
@@ -100,7 +96,7 @@ filled_draft bytes d =
 abbrev pub fill_fault : List ℕ → DraftContents → Option FillFault
 fill_fault bytes d =
     first_passing (
-    (not (is_source d.request.kind), NotASource)
+    (brings_data d.request.kind, NotASource)
     ∷ (nat_lt (sum_by data_length d.request.pieces) (length bytes), WrongLength)
     ∷ [])
 

@@ -5,16 +5,18 @@ use Rattle.sgl_descriptor.specs.{Spelling.{spelling, descriptor_of}, declared.De
 use Rattle.sgl_chain.specs.Spells.{Spells}
 use Rattle.controller_walk.specs.{Units.{units, verdict}, declared.walk.WalkState.TheVariants.End}
 use Rattle.entry_codec.specs.declared.submission.SubEntry.{SubEntry}
-use Rattle.io_commands.specs.{Asked.Request, Drafts.io_entry, Requests.{data_count, joined_parts, moves_data, FitsRequest}, Values.IsGood}
+use Rattle.io_commands.specs.{Asked.Request, Drafts.io_entry, Requests.{data_count, is_admin, joined_parts, moves_data, FitsRequest}, Values.IsGood}
 use Rattle.io_commands.specs.declared.block_size.BlockSize.TheVariants.{Bytes512}
 use Rattle.page_memory.specs.Pages.{Pages, byte_at}
 use Rattle.machine_model.specs.{After.course_of, Commands.{Work, Io, Management}, Reached.{only, on_pages, KeepsToPages}, Refusals.is_submitted}
 use Rattle.machine_model.specs.State.{State, ServedQueue, Record, Job, record_at}
 
--- a command's request fits its types and passes its check, its blocks have 512 bytes, and the command has a page for each data piece
+-- a command's request fits its types and passes its check, it is no admin command, its blocks have 512 bytes, and the command has a page for
+-- each data piece
 pub record IsSized (r : Record) (request : Request) : Type 0 where
   pub fits : FitsRequest request
   pub good : IsGood request
+  pub blocks : is_admin request.kind ≡ false
   pub size : request.block_size ≡ Bytes512
   pub pages : length r.data_pages ≡ data_count request.pieces
 

@@ -5,13 +5,13 @@ use Rattle.entry_codec.specs.declared.{hints.Hints.Hints, status.Status.Status, 
 use Rattle.page_memory.specs.Pages.{Pages}
 use Rattle.machine_model.specs.Commands.{Work}
 use Rattle.queue_pair.specs.Rings.{HostRing}
-use Rattle.machine_model.specs.declared.words.BlockSizes.{BlockSizes}
+use Rattle.machine_model.specs.declared.words.Peer.{Peer}
 pub use Rattle.machine_model.specs.declared.words.Phase.{Phase}
 pub use Rattle.machine_model.specs.declared.words.Phase.TheVariants.{Drafted, Submitted, Held, Collected}
 pub use Rattle.machine_model.specs.declared.words.HostState.{HostState}
 pub use Rattle.machine_model.specs.declared.words.HostState.TheVariants.{Live, Deleting, Retired, Gone, MakingCq, HalfMade, MakingSq}
 
--- an outstanding command: once it has ended, with its status and what its completion hinted at. One of queue 0 owns no page and is submitted from its sending on
+-- an outstanding command: once it has ended, with its status and what its completion hinted at. One that the host sends itself owns no page and is submitted from its sending on
 pub record Record : Type 0 where
   pub q : ℕ
   pub cid : ℕ
@@ -56,7 +56,7 @@ pub record ServedQueue : Type 0 where
 
 -- the host's part of the machine: what holds whatever was forged
 pub record Host : Type 0 where
-  pub block_sizes : BlockSizes
+  pub peer : Peer
   pub free : List ℕ
   pub queues : List HostQueue
   pub records : List Record

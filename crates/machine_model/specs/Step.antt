@@ -45,9 +45,8 @@ pub record IsReserved (s : State) (q : ℕ) (r : Request) (d : DraftContents) : 
 
 -- What a reap finds
 
-abbrev pub reaped_as : ℕ → ComEntry → Work → Reaped
-reaped_as q e (Io r) = events.Done e.cid e.status
-reaped_as q e (Management a) = events.AdminDone e.cid e.status e.dw0
+abbrev pub reaped_as : ℕ → ComEntry → Reaped
+reaped_as q e = if q == 0 then events.AdminDone e.cid e.status e.dw0 else events.Done e.cid e.status
 
 -- its head pointer lies from the known head to the tail, in ring order
 abbrev pub fits_ring : State → ℕ → ComEntry → Bool
@@ -60,7 +59,7 @@ abbrev pub reaped_entry : State → ℕ → ComEntry → Reaped
 reaped_entry s q e =
     if not (e.sqid == q) then events.Rejected events.WrongQueue
     else if not (fits_ring s q e) then events.Rejected events.BadHead
-    else option_map_or (λ r. reaped_as q e r.work) (submitted_at s q e.cid) (events.Rejected events.UnknownId)
+    else option_map_or (λ r. reaped_as q e) (submitted_at s q e.cid) (events.Rejected events.UnknownId)
 
 abbrev pub reaped : State → ℕ → Reaped
 reaped s q = option_map_or (reaped_entry s q) (seen_entry s q) events.Empty

@@ -57,21 +57,21 @@ impl HostState {
     }
 }
 
-/// Which sizes of blocks a host takes.
+/// Whom a host speaks to.
 #[derive(Clone, Copy, Debug, PartialEq, Eq)]
-pub enum BlockSizes {
-    /// 512 bytes alone, as the modelled controller has them.
-    Only512,
-    /// Each.
-    Any,
+pub enum Peer {
+    /// The modelled controller: it has blocks of 512 bytes alone, and no admin commands but those of queues and Abort.
+    Modelled,
+    /// A device: it may have blocks of each size and any admin command.
+    Device,
 }
 
 /// What an outstanding command is for.
 #[derive(Drop)]
 pub enum Work<R = Request> {
-    /// A command of an I/O queue.
+    /// A command of the caller's: of an I/O queue, or an admin command of queue 0.
     Io(R),
-    /// A command of queue 0.
+    /// A command of queue 0 that the host sends for a queue, or to abort a command.
     Management(AdminKind),
 }
 

@@ -13,6 +13,7 @@ code_of_request_fault request_fault.EmptyPiece = 41
 code_of_request_fault request_fault.CrossesPage = 42
 code_of_request_fault request_fault.BadCount = 43
 code_of_request_fault request_fault.LengthMismatch = 44
+code_of_request_fault request_fault.HostsOwn = 47
 
 abbrev pub code_of_refusal : Refusal → ℕ
 code_of_refusal refusal.NoQueue = 10

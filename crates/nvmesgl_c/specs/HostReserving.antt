@@ -3,8 +3,8 @@ use Rattle.std.specs.Prelude.{◌≡◌, ◌⊎◌, ℕ, Option, Some, None, Res
 use Rattle.io_commands.specs.Asked.{Request}
 use Rattle.machine_model.specs.Script.{Table}
 use Rattle.host_bench.specs.{Calls.Does, Values.Reply}
-use Rattle.nvmesgl_c.specs.{HostAnswers.told, HostCalls.Refuses, HostCodes.code_of_reply, HostKept.{Kept, code_in}, HostTags.IsTagged, Requests.{asked_of, IsMade, looked_at}}
-use Rattle.nvmesgl_c.specs.declared.{host.tagged.Tagged.Tagged, words.{answer.Answer.Answer, asked.CRequest.CRequest, piece.CPiece.CPiece}}
+use Rattle.nvmesgl_c.specs.{HostAnswers.told, HostCalls.Refuses, HostCodes.code_of_reply, HostKept.{Kept, code_in}, HostTags.IsTagged, AdminRequests.admin_of, Requests.{asked_of, IsMade, looked_at}}
+use Rattle.nvmesgl_c.specs.declared.{host.tagged.Tagged.Tagged, words.{admin.CAdmin.CAdmin, answer.Answer.Answer, asked.CRequest.CRequest, piece.CPiece.CPiece}}
 use Rattle.host_bench.specs.declared.call.Call.TheVariants as call
 use Rattle.host_bench.specs.declared.call.Reply.TheVariants as reply
 use Rattle.machine_model.specs.declared.words.Refusal.TheVariants as refusal
@@ -58,3 +58,9 @@ pub record Reserves (t : Kept) (q : ℕ) (asked : CRequest) (pieces : List CPiec
   pub made : Result Request ℕ
   pub is_made : IsMade (asked_of asked (looked_at pieces)) made
   pub goes_on : ReservesMade made t q tag code answer new
+
+-- a reservation of an admin command that C asks for, on queue 0
+pub record ReservesAdmin (t : Kept) (asked : CAdmin) (tag code : ℕ) (answer : Answer) (new : Kept) : Type 0 where
+  pub made : Result Request ℕ
+  pub is_made : IsMade (admin_of asked) made
+  pub goes_on : ReservesMade made t 0 tag code answer new

@@ -5,6 +5,7 @@ pub mod Codes
 pub mod NotOpening
 pub mod Images
 pub mod Requests
+pub mod AdminRequests
 pub mod Buffers
 pub mod Owners
 pub mod Named

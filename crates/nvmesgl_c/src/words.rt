@@ -11,6 +11,7 @@ macro_rules! or_code {
     };
 }
 
+mod admin;
 mod answer;
 mod asked;
 mod buffers;
@@ -26,6 +27,7 @@ mod region;
 mod request;
 mod reserved;
 
+pub use admin::{CAdmin, admin_of};
 pub use answer::{Answer, collected, ended, nothing, reaped, refused, touching, walked};
 pub use asked::{CRequest, asked_of, plain};
 pub use buffers::{CBuffer, CBytes, copy_of, count_of, lay, room_of};

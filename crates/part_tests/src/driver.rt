@@ -9,7 +9,7 @@ use crate::side_requests::of_blocks;
 use admin_commands::AdminKind;
 use host_core::{Config, Host, Opened, Reap, Refused};
 use io_commands::{Draft, Finished, Kind, Request, Ticket};
-use machine_model::words::{BlockSizes, OpenRefusal, Refusal};
+use machine_model::words::{OpenRefusal, Peer, Refusal};
 use page_ledger::Owner;
 use page_memory::{Half, PageNo, Store};
 use std::alloc::{Allocator, Global};
@@ -118,7 +118,7 @@ fn overwrite<A: Allocator>(store: &mut Store<A>, p: PageNo, at: usize, bytes: &[
 impl<A: Allocator + Copy> Driver<A> {
     /// Opens a host.
     pub(crate) fn open(alloc: A, config: Config) -> Result<Driver<A>, OpenRefusal> {
-        let Opened { host, store } = Host::open(alloc, config, BlockSizes::Only512)?;
+        let Opened { host, store } = Host::open(alloc, config, Peer::Device)?;
         Ok(Driver {
             host,
             store,

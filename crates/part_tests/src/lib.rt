@@ -6,6 +6,8 @@
 #![tactic(auto)]
 
 #[cfg(test)]
+mod admin_read;
+#[cfg(test)]
 mod allocator;
 #[cfg(test)]
 mod arbitrary;

@@ -1,7 +1,7 @@
 -- Which events are accepted.
 use Rattle.machine_model.specs.Events as events
 use Rattle.machine_model.specs.After as a
-use Rattle.std.proofs.Common.{◌≡◌, ℕ, ◌≤◌, Bool, true, false, ◌&&◌, List, [], ◌∷◌, ◌++◌, length, if◌then◌else◌, refl, ap, arith, ◌⊎◌, inl, inr, ◌+◌, nat_lt, not, ◌||◌, Option, Some, None, is_some, is_none, MatchBool, ap₂, sym, ◌∙◌, subst, ◌==◌, map, eqb-true}
+use Rattle.std.proofs.Common.{◌≡◌, ℕ, ◌≤◌, Bool, true, false, ◌&&◌, List, [], ◌∷◌, ◌++◌, length, if◌then◌else◌, refl, ap, arith, ◌⊎◌, inl, inr, ◌+◌, nat_lt, not, ◌||◌, Option, Some, None, is_some, is_none, MatchBool, ap₂, sym, ◌∙◌, subst, ◌==◌, map, eq-eqb, eqb-true}
 use Rattle.std.proofs.lemmas.{Bool.{true≢false, not-true, and_parts, Decides.nat_tests}, List.Elements.{All-nil, All-cons, All-append}}
 use Rattle.std.specs.{List.AllByRecursion, Option.{option_map, option_and_then}}
 use Rattle.page_ledger.specs.Owners.{is_among}
@@ -15,17 +15,17 @@ use Rattle.machine_model.specs.{Placement.{data_placed, chain_placed, chain_want
 use Rattle.machine_model.specs.Refusals.{refusal_of, host_queue, next_rung, post_page, is_submitted, is_held, no_identifier, pages_wanted}
 use Rattle.machine_model.specs.State.{State, Record, is_at, record_at, HostQueue, pages_of, with_record, without_record}
 use Rattle.machine_model.specs.Step.{times, zeroed, Permits, Answers, AnswersAnything, IsController, IsReserved, IsNewIdentifier, is_exact, reaped, touched_by_fetch, finished_from, asked_by, pages_with_bytes, Step, HostPart}
-use Rattle.machine_model.specs.{Work.Work, declared.words.{HostState.TheVariants.Deleting, Phase.TheVariants.Held, Work.TheVariants.Io}}
+use Rattle.machine_model.specs.{Work.Work, declared.words.{HostState.TheVariants.Deleting, Peer.Peer, Phase.TheVariants.Held, Work.TheVariants.{Io, Management}}}
 use Rattle.sgl_chain.specs.Chains.{pages_needed}
 use Rattle.controller_walk.specs.{Units.touched, declared.walk.WalkState.TheVariants.More}
 use Rattle.entry_codec.specs.declared.{hints.Hints.Hints, status.{Status.Status, TheConstants.Status.ABORTED_SQ_DELETION}, submission.SubEntry.SubEntry}
 use Rattle.io_commands.specs.{Asked.Request, Drafts.DraftContents, Requests.{data_count, joined_parts}, Values.FinishedContents}
 use Rattle.two_sides.proofs.Agreed.{IsJudged, host_judged, judged, unjudged, done, new_identifier, walk_allowed, has_unit, opens_in_order, order_kept}
-use Rattle.two_sides.{proofs.{Provided.{all_map, all_append, all_in_both}, Untouched.owned_once}, specs.InOrder.IsInOrder}
+use Rattle.two_sides.{proofs.{Provided.{all_map, all_append, all_in_both, is_found}, Untouched.owned_once}, specs.InOrder.IsInOrder}
 use Rattle.run_laws.specs.Accepted.{HasEnded, EndedIfHeld, IsReady, IsAccepted, is_refusal, every_event_is_accepted_or_has_a_cause, every_reset_is_accepted, resets_have_one_answer, forged_worlds_accept_the_controller, forged_worlds_know_their_queues, openings_are_ready, steps_keep_ready}
 use Rattle.admin_commands.specs.declared.AdminKind.{AdminKind, TheVariants.{Abort, DeleteSq, DeleteCq}}
 use Rattle.slot_table.proofs.Rows.{option_is}
-use Rattle.page_memory.proofs.Lists.{found_is, all-found, all-filter}
+use Rattle.page_memory.proofs.Lists.{all-found, all-filter}
 use Rattle.host_core.proofs.Granted.{length-zeroed}
 
 -- Where pages do not run out, there are free ones.
@@ -213,15 +213,20 @@ queues_known s new e reply forged c step accepted = grind (arith, not-true s.tru
 abbrev pub AllEnded : List Record → Type 0
 AllEnded records = AllByRecursion EndedIfHeld records
 
-abbrev Fine : Record → Type 0
-Fine r = OwnsFit r.q r.work (pages_of r) × EndedIfHeld r
+abbrev Fine : Peer → Record → Type 0
+Fine peer r = OwnsFit peer r.q r.work (pages_of r) × EndedIfHeld r
 
-fine : (s : State) → IsSound s → AllEnded s.host.records → AllByRecursion (λ r. OwnsFit r.q r.work (pages_of r) × EndedIfHeld r) s.host.records
-fine s sound h = all_in_both EndedIfHeld (λ r. OwnsFit r.q r.work (pages_of r)) (λ r. OwnsFit r.q r.work (pages_of r) × EndedIfHeld r) s.host.records (λ r within f e. (f, e)) sound.works_fit h
+fine : (s : State) → IsSound s → AllEnded s.host.records → AllByRecursion (Fine s.host.peer) s.host.records
+fine s sound h = all_in_both EndedIfHeld (λ r. OwnsFit s.host.peer r.q r.work (pages_of r)) (Fine s.host.peer) s.host.records (λ r within f e. (f, e)) sound.works_fit h
 
 -- a record of an I/O queue is of an I/O command
-io_of : (r : Record) → (r.q == 0) ≡ false → (w : Work) → OwnsFit r.q w (pages_of r) → is_some (asked_by w) ≡ true
-io_of r other w fit = grind arith
+io_of : (peer : Peer) (r : Record) → (r.q == 0) ≡ false → (w : Work) → OwnsFit peer r.q w (pages_of r) → is_some (asked_by w) ≡ true
+io_of peer r other (Io request) fit = refl
+io_of peer r other (Management adm) fit = absurd (true≢false (sym (eq-eqb r.q 0 fit.0) ∙ other))
+
+-- the record of an identifier, where it is the only one
+abbrev Lone : ℕ → ℕ → Record → Record → Type 0
+Lone q cid r x = (is_at q cid x ≡ true → x ≡ r) × EndedIfHeld x
 
 not_held_now : (q cid : ℕ) (f : Record → Record) → ((r : Record) → is_held (f r).phase ≡ false) → (rs : List Record) → AllEnded rs → AllEnded (with_record q cid f rs)
 not_held_now q cid f free rs h = all_map EndedIfHeld EndedIfHeld (λ r. if is_at q cid r then f r else r) rs (λ r e. each r (is_at q cid r) e) h
@@ -235,12 +240,12 @@ not_held_now q cid f free rs h = all_map EndedIfHeld EndedIfHeld (λ r. if is_at
 deleted_other : (s : State) (q : ℕ) (queue : HostQueue) → AdminLives s.host.queues → host_queue s q ≡ Some queue → queue.state ≡ Deleting true → (q == 0) ≡ false
 deleted_other s q queue lives there deleted = grind (arith, eqb-true)
 
-ended_lost : (q : ℕ) → (q == 0) ≡ false → (rs : List Record) → AllByRecursion (λ r. OwnsFit r.q r.work (pages_of r) × EndedIfHeld r) rs → AllEnded (map (a.lost q) rs)
-ended_lost q other rs h = all_map (λ r. OwnsFit r.q r.work (pages_of r) × EndedIfHeld r) EndedIfHeld (a.lost q) rs (λ r p. each r ((r.q == q) && is_submitted r.phase) refl p) h
+ended_lost : (peer : Peer) (q : ℕ) → (q == 0) ≡ false → (rs : List Record) → AllByRecursion (Fine peer) rs → AllEnded (map (a.lost q) rs)
+ended_lost peer q other rs h = all_map (Fine peer) EndedIfHeld (a.lost q) rs (λ r p. each r ((r.q == q) && is_submitted r.phase) refl p) h
   where
-    each : (r : Record) (b : Bool) → ((r.q == q) && is_submitted r.phase) ≡ b → OwnsFit r.q r.work (pages_of r) × EndedIfHeld r → EndedIfHeld (if b then a.aborted r else r)
+    each : (r : Record) (b : Bool) → ((r.q == q) && is_submitted r.phase) ≡ b → Fine peer r → EndedIfHeld (if b then a.aborted r else r)
     each r true at p = λ held. record {
-      is_io = io_of r (ap (λ (n : ℕ). n == 0) (eqb-true r.q q (and_parts (r.q == q) (is_submitted r.phase) at).0) ∙ other) r.work p.0;
+      is_io = io_of peer r (ap (λ (n : ℕ). n == 0) (eqb-true r.q q (and_parts (r.q == q) (is_submitted r.phase) at).0) ∙ other) r.work p.0;
       has_status = refl;
     }
     each r false at p = p.1
@@ -252,8 +257,10 @@ host_ended s e reply sound ok c h =
     let began : (new : Record) → EndedIfHeld new → AllEnded (s.host.records ++ new ∷ []) = λ new ended. all_append EndedIfHeld s.host.records (new ∷ []) h (ended, tt) in
     let less : (q cid : ℕ) → AllEnded (without_record q cid s.host.records) = λ q cid. all-filter EndedIfHeld (λ r. not (is_at q cid r)) s.host.records h in
     let sent : (adm : AdminKind) (id : ℕ) → AllEnded (s.host.records ++ sent_record adm id ∷ []) = λ adm id. began (sent_record adm id) (λ held. absurd (true≢false (sym held))) in
-    let io_queue : (q cid : ℕ) (r : Record) (request : Request) → r.work ≡ Io request → record_at s.host q cid ≡ Some r → (q == 0) ≡ false =
-    λ q cid r request w e. grind (arith, all-found, eqb-true, found_is) in
+    -- a completion that is told ends the one command of its identifier
+    let lone : (q cid : ℕ) (r : Record) → record_at s.host q cid ≡ Some r → AllByRecursion (Lone q cid r) s.host.records = λ q cid r found.
+    all_in_both EndedIfHeld (λ x. is_at q cid x ≡ true → x ≡ r) (Lone q cid r) s.host.records (λ x within f e. (f, e))
+    (is_found q cid s.host.records r found ((holds_from_sound s sound).once q cid)) h in
     host_moves (λ (e : Event) (reply : Reply) (t : State). AllEnded t.host.records) s e reply ok c
     (record {
       reserves = λ q request d none is. began (drafted_record d) (λ held. absurd (true≢false (sym held)));
@@ -262,7 +269,8 @@ host_ended s e reply sound ok c h =
       rings = λ q none. h;
       rests = λ q is. h;
       rejects = λ q why is. h;
-      tells = λ q cid st what e r request t heard w. all_map Fine EndedIfHeld (λ x. if is_at q cid x then a.held st e.hints x else x) s.host.records (λ x p. told q cid st e.hints x (io_queue q cid r request w heard.found) (is_at q cid x) refl p) (fine s sound h);
+      tells = λ q cid st what e r request t heard w.
+          all_map (Lone q cid r) EndedIfHeld (λ x. if is_at q cid x then a.held st e.hints x else x) s.host.records (λ x p. told q cid st e.hints x r request w (is_at q cid x) refl p) (lone q cid r heard.found);
       hears = λ q cid st what e r adm t heard w quiet unmade. less q cid;
       notes = λ q cid st what e r k t heard w. less q cid;
       frees = λ q cid st what e r k queue t heard w at alone good. less q cid;
@@ -277,17 +285,15 @@ host_ended s e reply sound ok c h =
       drops = λ q id none new. sent (DeleteCq q) id;
       creates_cqs = λ q vector id first queue none new granted. sent (creates_cq q vector first s) id;
       creates_sqs = λ q id first queue none new granted. sent (creates_sq q first s) id;
-      retires = λ q queue none at deleted. ended_lost q (deleted_other s q queue sound.admin at deleted) s.host.records (fine s sound h);
+      retires = λ q queue none at deleted. ended_lost s.host.peer q (deleted_other s q queue sound.admin at deleted) s.host.records (fine s sound h);
       forges = λ q slot bytes queue none at. h;
       resets = all_reset EndedIfHeld EndedIfHeld (λ r io ended. lost_by EndedIfHeld r (λ quiet. ended) (λ sub held. record { is_io = grind arith; has_status = refl })) s.host.records h;
     })
   where
-    told : (q cid : ℕ) (st : Status) (hints : Hints) (r : Record) → (q == 0) ≡ false → (b : Bool) → is_at q cid r ≡ b → Fine r → EndedIfHeld (if b then a.held st hints r else r)
-    told q cid st hints r other true at p = λ held. record {
-      is_io = io_of r (ap (λ (n : ℕ). n == 0) (eqb-true r.q q (and_parts (r.q == q) (r.cid == cid) at).0) ∙ other) r.work p.0;
-      has_status = refl;
-    }
-    told q cid st hints r other false at p = p.1
+    told : (q cid : ℕ) (st : Status) (hints : Hints) (x r : Record) (request : Request) → r.work ≡ Io request → (b : Bool) → is_at q cid x ≡ b → Lone q cid r x
+        → EndedIfHeld (if b then a.held st hints x else x)
+    told q cid st hints x r request w true at p = λ held. record { is_io = ap (λ (y : Record). is_some (asked_by y.work)) (p.0 at) ∙ ap (λ (v : Work). is_some (asked_by v)) w; has_status = refl }
+    told q cid st hints x r request w false at p = p.1
 
 -- Steps
 

@@ -8,7 +8,7 @@ use Rattle.machine_model.specs.{Proper.IsProper}
 use Rattle.machine_model.specs.Refusals.{is_submitted, next_rung, job_at, is_job, refusal_of}
 use Rattle.machine_model.specs.{Standing.{unfetched_at, HasEntry, StandsAs, CommandStands}, State.{State, ServedQueue, Record, Job, is_at, pages_of}}
 use Rattle.machine_model.specs.{Status.same_status, Step.{IsController, resets, Step}, Trusted.TrustedRun, Weights.{one, total}, Work.Work}
-use Rattle.machine_model.specs.declared.words.{Refusal.Refusal, Work.TheVariants.{Io, Management}}
+use Rattle.machine_model.specs.declared.words.{Peer.TheVariants.{Modelled}, Refusal.Refusal, Work.TheVariants.{Io, Management}}
 use Rattle.std.proofs.Common.{◌≡◌, ℕ, zero, suc, ◌+◌, ◌≤◌, ◌==◌, nat_lt, Bool, true, false, ◌&&◌, ◌||◌, Option, Some, None, List, [], ◌∷◌, ◌++◌, length, if◌then◌else◌, refl, ap, ap₂, sym, ◌∙◌, arith, subst, eqb-true, eq-eqb, inl, inr, not, map, filter, find, is_some, is_none, ◌/◌}
 use Rattle.std.{proofs.lemmas.{Bool.{true≢false, and_parts, cases_Bool, not-false, Decides.nat_tests}, List.length-replicate}, specs.List.{AllByRecursion, list_any}}
 use Rattle.std.specs.{Option.{option_map_or, option_map}, Prelude.unwrap_or, Str.bytes_eq}
@@ -20,11 +20,11 @@ use Rattle.entry_codec.specs.declared.status.TheConstants.Status.{SUCCESS, ABORT
 use Rattle.entry_codec.specs.declared.submission.SubEntry.{SubEntry}
 use Rattle.io_commands.{proofs.Building.{entry_blocks, few_blocks, few_of_a_size}, specs.{Asked.Request, Drafts.io_entry}}
 use Rattle.io_commands.specs.Jobs.{verdict_of, io_fault, bytes_after_check, first_block, block_number, need_of_entry, kind_of_opcode, direction_of_entry}
-use Rattle.io_commands.specs.{Values.IsGood, Requests.moves_data, declared.request.Kind.{Kind, TheVariants.{Write, Compare}}}
+use Rattle.io_commands.specs.{Values.IsGood, Requests.{is_admin, moves_data}, declared.request.Kind.{Kind, TheVariants.{Write, Compare}}}
 use Rattle.run_laws.specs.Statuses.{fetches, aborts, deletes, since_fetch, fetches_by, managed_entry, status_by, has_cause, is_unknown, misses_namespace, passes_image, is_compare, every_status_has_its_cause}
 use Rattle.two_sides.proofs.{Along.{Carried, Before, keeps, made_of, run_before}, Commands.{in_hand_is, Walking, walking}}
 use Rattle.two_sides.proofs.{ControllerMoves.{unit_bytes, unit_done, finished, fetch_of, walk_by, complete_by}, JobLaws.{moved_length, blocks_put, not_zero}}
-use Rattle.two_sides.proofs.{NeverFull.{one_job, stood_on, stood_at_opening}, PlacesKept.{InHand, first_is, running_not_past, in_hand}}
+use Rattle.two_sides.proofs.{NeverFull.{one_job, stood_on, stood_at_opening}, PlacesKept.{InHand, first_is, running_not_past, in_hand}, TiedAll.admins_of}
 use Rattle.two_sides.proofs.PoolBytes.{host_jobs, host_image}
 use Rattle.two_sides.proofs.Provided.{sent_found, all_map, all_append, all_of, all_in_both, only_found}
 use Rattle.two_sides.proofs.Served.{Stood, course_ends}
@@ -172,12 +172,12 @@ few_in r good =
     let few = few_of_a_size r.block_size in
     omega (arith, most, few)
 
-good_fault : (blocks cid : ℕ) (r : Request) (sgl1 : List ℕ) → IsGood r → io_fault blocks (io_entry cid r sgl1) ≡ entry_fault blocks (io_entry cid r sgl1)
-good_fault blocks cid r sgl1 good = elim (cases_Bool (moves_data r.kind)) [
+good_fault : (blocks cid : ℕ) (r : Request) (sgl1 : List ℕ) → IsGood r → is_admin r.kind ≡ false → io_fault blocks (io_entry cid r sgl1) ≡ entry_fault blocks (io_entry cid r sgl1)
+good_fault blocks cid r sgl1 good far = elim (cases_Bool (moves_data r.kind)) [
   | inl moves ↦
       let few = at_most_2048 (block_number (io_entry cid r sgl1)) (subst (λ (n : ℕ). n ≤ 2048) (sym (entry_blocks cid r sgl1 good moves)) (few_in r good)) in
       rw (ap is_none (moving_kind r.kind moves), moves, few) refl
-  | inr still ↦ rw (ap is_none (still_kind r.kind still)) refl
+  | inr still ↦ rw (ap is_none (still_kind r.kind far still)) refl
 ]
 
 -- the entry in hand is that of a good request
@@ -185,6 +185,7 @@ pub record HandGood (e : SubEntry) : Type 0 where
   pub request : Request
   pub sgl1 : List ℕ
   pub good : IsGood request
+  pub blocks : is_admin request.kind ≡ false
   pub is : e ≡ io_entry e.cid request sgl1
 
 pub hand_good : (s : State) → Stood s → (q : ℕ) (e : SubEntry) → (q == 0) ≡ false → InHand s q e → HandGood e
@@ -198,17 +199,17 @@ hand_good s stood q e other hand =
     let r = sent_found q e.cid s.host.records (omega (arith, un, mine, stood.places q w)) (stood.grounds.stands.0.once q e.cid) in
     let ids = and_parts (r.0.q == q) (r.0.cid == e.cid) (found_is (is_at q e.cid) s.host.records r.0 r.1) in
     of r.0 r.2 (eqb-true r.0.q q ids.0) (eqb-true r.0.cid e.cid ids.1) r.0.work refl
-    (all-found (λ r. OwnsFit r.q r.work (pages_of r)) (is_at q e.cid) s.host.records r.0 r.1 stood.grounds.stands.0.admins)
+    (all-found (λ r. OwnsFit Modelled r.q r.work (pages_of r)) (is_at q e.cid) s.host.records r.0 r.1 (admins_of s stood.grounds))
     (all-found (CommandStands s.memory s.controller.queues s.controller.jobs) (is_at q e.cid) s.host.records r.0 r.1 stood.commands)
   where
     of : (r : Record) → is_submitted r.phase ≡ true → r.q ≡ q → r.cid ≡ e.cid → (work : Work) → r.work ≡ work
-        → OwnsFit r.q r.work (pages_of r) → CommandStands s.memory s.controller.queues s.controller.jobs r → HandGood e
+        → OwnsFit Modelled r.q r.work (pages_of r) → CommandStands s.memory s.controller.queues s.controller.jobs r → HandGood e
     of r sub rq rc (Io request) is fit stands =
         let stands' : StandsAs s.memory s.controller.queues s.controller.jobs r (Io request) = subst (StandsAs s.memory s.controller.queues s.controller.jobs r) is stands in
         let list = stands'.1 sub in
         let same : e ≡ io_entry r.cid request (spelling list.first) =
         in_hand_is s q e hand r.cid (io_entry r.cid request (spelling list.first)) (subst (λ (n : ℕ). HasEntry s.controller.queues s.controller.jobs n r.cid (io_entry r.cid request (spelling list.first))) rq list.entry) (sym rc) in
-        record { request = request; sgl1 = spelling list.first; good = stands'.0.good; is = same ∙ ap (λ (c : ℕ). io_entry c request (spelling list.first)) rc }
+        record { request = request; sgl1 = spelling list.first; good = stands'.0.good; blocks = stands'.0.blocks; is = same ∙ ap (λ (c : ℕ). io_entry c request (spelling list.first)) rc }
     of r sub rq rc (Management adm) is fit stands = grind (arith, eq-eqb)
 
 -- a job that begins
@@ -221,7 +222,7 @@ caused_begun earlier blocks image q e m hand is =
     ]
   where
     fault : io_fault blocks e ≡ entry_fault blocks e
-    fault = subst (λ (x : SubEntry). io_fault blocks x ≡ entry_fault blocks x) (sym hand.is) (good_fault blocks e.cid hand.request hand.sgl1 hand.good)
+    fault = subst (λ (x : SubEntry). io_fault blocks x ≡ entry_fault blocks x) (sym hand.is) (good_fault blocks e.cid hand.request hand.sgl1 hand.good hand.blocks)
 
     unknown : is_none (kind_of_opcode e.opcode) ≡ true → Caused (earlier ++ m ∷ []) blocks (a.new_job q e (io_fault blocks e) 0 (bytes_after_check image e (io_fault blocks e)))
     unknown none =

@@ -10,9 +10,9 @@ use Rattle.machine_model.specs.{Image.{Made, submitted_by}, Memory.with_pages, O
 use Rattle.machine_model.specs.Refusals.{is_submitted, is_drafted, is_held, is_of, asks_for, refusal_of, job_at, next_rung}
 use Rattle.machine_model.specs.State.{State, Record, is_at, record_at, pages_of, Job, PostedCompletion, with_record}
 use Rattle.machine_model.specs.{Step.{Step, reaped, finished_from, asked_by, pages_with_bytes}, Trusted.Steps, Work.Work, declared.words.Phase.Phase}
-use Rattle.machine_model.specs.declared.words.{Phase.TheVariants.Held, Refusal.Refusal, Work.TheVariants.{Io, Management}}
+use Rattle.machine_model.specs.declared.words.{Peer.TheVariants.{Modelled}, Phase.TheVariants.Held, Refusal.Refusal, Work.TheVariants.{Io, Management}}
 use Rattle.two_sides.proofs.Along.{along, trusted_step_by, Unforged, unforged_next, unforged_front, unforged_back, unforged_run, unforged_end, cut}
-use Rattle.two_sides.proofs.{Commands.{nobody, no_job}, NeverFull.{stood_on, stood_at_opening, host_jobs}, PlacesKept.{drafted_not, reaped_completion}}
+use Rattle.two_sides.proofs.{Commands.{nobody, no_job}, NeverFull.{stood_on, stood_at_opening, host_jobs}, PlacesKept.{drafted_not, reaped_completion}, TiedAll.admins_of}
 use Rattle.two_sides.proofs.{Provided.{is_found, In, all_append, sent}, Served.{Stood, requests_same, completions_at}, Standing.list_at}
 use Rattle.io_commands.specs.{Drafts.DraftContents, Values.{numbers_of, FinishedContents}}
 use Rattle.run_laws.proofs.{Carrying.Stands, Known.{submit_record, unsent, submitted_stand, stand_still}}
@@ -168,8 +168,8 @@ found_draft s d reply g =
       of = of.0;
       drafted = of.1;
       other = subst (λ (n : ℕ). (n == 0) ≡ false) (ids_of s d.q d.cid x.0 x.1).0
-          (subst (λ (w : Work). OwnsFit x.0.q w (pages_of x.0)) of.0.work
-          (all-found (λ (r : Record). OwnsFit r.q r.work (pages_of r)) (is_at d.q d.cid) s.host.records x.0 x.1 g.stood.grounds.stands.0.admins));
+          (subst (λ (w : Work). OwnsFit Modelled x.0.q w (pages_of x.0)) of.0.work
+          (all-found (λ (r : Record). OwnsFit Modelled r.q r.work (pages_of r)) (is_at d.q d.cid) s.host.records x.0 x.1 (admins_of s g.stood.grounds)));
       only = is_found d.q d.cid s.host.records x.0 x.1 (g.stood.grounds.stands.0.once d.q d.cid);
     }
 

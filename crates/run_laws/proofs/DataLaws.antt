@@ -10,13 +10,13 @@ use Rattle.io_commands.specs.{Asked.Request, DataBytes.{PagesOut, gathered}, Dra
 use Rattle.io_commands.specs.declared.request.Piece.{Piece, TheVariants.{Data, Bucket}}
 use Rattle.machine_model.{proofs.HostLeaves.ids_of, specs.{Claims.OwnsFit, Events.{Event, Reply}, Image.{Made, is_draft, draft_of, submitted_by}}}
 use Rattle.machine_model.specs.{Opening.opening, State.{is_at, State, Record, pages_of}, Step.{zeroed, pages_with_bytes, Step}}
-use Rattle.machine_model.specs.{Trusted.{TrustedRun, Steps, drafts_of}, Work.Work}
+use Rattle.machine_model.specs.{Trusted.{TrustedRun, Steps, drafts_of}, Work.Work, declared.words.Peer.TheVariants.{Modelled}}
 use Rattle.run_laws.proofs.Carrying.{Stands}
 use Rattle.run_laws.proofs.DataKept.{along_steps, Going, left_step, stood_step, stood_along, IsOfDraft, found_draft, held_goes, goes_on, reaped_on, sub_goes, Unread, Untouched, Waits, unread_step, unread_submit, course, alone_of, at_draft, request_stays, Collects, collects_held}
 use Rattle.run_laws.proofs.{DataOnce.once, Images.refused_drafts, Moves.{RecordsMove, records_event}, ReadLaws.{reads_give, stopped_reads}}
 use Rattle.run_laws.specs.Statuses.{fetches}
 use Rattle.run_laws.specs.Submitted.{CollectedCommand, FetchedCommand, submits, was_fetched, unfetched_commands_keep_their_data, unfetched_commands_keep_the_drafts_bytes, unfetched_commands_were_deleted, successful_commands_were_fetched, AreZeros, drafts_of_reserve_are_zero, unfetched_commands_of_zeros_gather_zeros, fetched_commands_have_their_fetch, commands_are_fetched_once, fetched_reads_give_a_prefix, successful_reads_give_their_blocks, collected_commands_were_submitted}
-use Rattle.two_sides.proofs.{Along.{Unforged, unforged_next, unforged_front, unforged_run, unforged_end, cut}, NeverFull.stood_at_opening}
+use Rattle.two_sides.proofs.{Along.{Unforged, unforged_next, unforged_front, unforged_run, unforged_end, cut}, NeverFull.stood_at_opening, TiedAll.admins_of}
 use Rattle.two_sides.proofs.Served.{hosts_own, Stood}
 use Rattle.page_memory.proofs.Lists.{all-found, some_is}
 
@@ -293,8 +293,8 @@ were_submitted image earlier later m end f run is =
     ids = ids_of parts.0 f.q f.cid found.command found.found
 
     other : (found.command.q == 0) ≡ false
-    other = subst (λ (w : Work). OwnsFit found.command.q w (pages_of found.command)) found.work
-        (all-found (λ (r : Record). OwnsFit r.q r.work (pages_of r)) (is_at f.q f.cid) parts.0.host.records found.command found.found stood.grounds.stands.0.admins)
+    other = subst (λ (w : Work). OwnsFit Modelled found.command.q w (pages_of found.command)) found.work
+        (all-found (λ (r : Record). OwnsFit Modelled r.q r.work (pages_of r)) (is_at f.q f.cid) parts.0.host.records found.command found.found (admins_of parts.0 stood.grounds))
 
     its : is_some (draft_of found.command.q found.command.cid (drafts_of earlier ++ [])) ≡ true
     its = all-found (HasDraft (drafts_of earlier ++ [])) (is_at f.q f.cid) parts.0.host.records found.command found.found drafted (held_goes found.command.phase found.held) other

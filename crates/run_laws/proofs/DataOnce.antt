@@ -11,19 +11,20 @@ use Rattle.machine_model.specs.{Proper.IsProper, Reached.{only, on_pages}}
 use Rattle.machine_model.specs.Refusals.{next_rung, job_at, conflicts, host_queue, is_submitted, is_drafted, is_live, in_state, is_of, queue_full, record_is}
 use Rattle.machine_model.specs.Standing.{unfetched_at, HasEntry, ListStands, StandsAs, CommandStands}
 use Rattle.machine_model.specs.{State.{State, ServedQueue, Controller, Record, Job, is_at, record_at, with_record, pages_of}, Step.Step, Trusted.{Steps, drafts_of}}
-use Rattle.machine_model.specs.{Work.Work, declared.words.{Refusal.Refusal, Work.TheVariants.{Io, Management}}}
+use Rattle.machine_model.specs.{Work.Work, declared.words.{Peer.TheVariants.{Modelled}, Refusal.Refusal, Work.TheVariants.{Io, Management}}}
 use Rattle.entry_codec.specs.declared.{status.TheConstants.Status.COMMAND_ID_CONFLICT, submission.SubEntry.SubEntry}
-use Rattle.io_commands.{proofs.{Building.carries_entry, Pointers.{pointer_moves, pointer_still}}, specs.{Asked.Request, Drafts.{DraftContents, draft_first, draft_entry, io_entry, pointer_of}, Requests.{joined_parts, moves_data}}}
+use Rattle.io_commands.proofs.{Building.{carries_entry, draft_of_blocks, moves_blocks}, Pointers.{pointer_moves, pointer_still}}
+use Rattle.io_commands.specs.{Asked.Request, Drafts.{DraftContents, draft_first, io_entry, pointer_of}, Requests.{joined_parts, moves_data}}
 use Rattle.io_commands.specs.{Values.numbers_of, declared.request.Kind.Kind}
 use Rattle.run_laws.proofs.{Causes.not_conflicting, DataKept.{Going, one_step, stood_step, left_step, submits_far, IsOfDraft, Found, found_draft, submits_of}}
 use Rattle.run_laws.proofs.{Known.{unsent, same_draft}, Moves.{QueueMove, queues_event, RecordsMove, records_event}, ReadsWalked.sent_few}
 use Rattle.run_laws.specs.{Statuses.{fetches, fetches_by}, Submitted.{submits, HasListOf, chains_are_the_drafts}}
 use Rattle.two_sides.proofs.{Along.{Unforged, unforged_next, unforged_run}, Commands.{nobody, keeps_fetch, keeps_walk, keeps_complete, only_same}}
 use Rattle.two_sides.proofs.{JobLaws.{stay_after, entries_named}, NeverFull.{host_jobs, stood_on, stood_at_opening}}
-use Rattle.two_sides.proofs.PlacesKept.{InHand, in_hand, first_is, running_not_past, drafted_not}
+use Rattle.two_sides.proofs.PlacesKept.{InHand, entry_cid, in_hand, first_is, running_not_past, drafted_not}
 use Rattle.two_sides.proofs.Provided.{all_append, all_drop_one, In, in_found, all_in_both, sent}
 use Rattle.two_sides.proofs.Served.{Stood, unfetched_count, page_below, data_of, chain_of, more_than_only, first_read}
-use Rattle.two_sides.{proofs.{Standing.{list_at, less_at, controller-posted}, TiedAll.pair_at}, specs.MachineLaws.entries_of}
+use Rattle.two_sides.{proofs.{Standing.{list_at, less_at, controller-posted}, TiedAll.{admins_of, pair_at}}, specs.MachineLaws.entries_of}
 use Rattle.page_ledger.specs.Owners.{is_among}
 use Rattle.page_memory.specs.Pages.{Pages, page_at, byte_at}
 use Rattle.sgl_descriptor.specs.{Spelling.{spelling, descriptor_of}, declared.Descriptor.Descriptor}
@@ -57,7 +58,7 @@ no_entry_on q cid other s e reply g far = record {
     new : (x : DraftContents) (entry : SubEntry) → e ≡ events.Submit x → x.entry ≡ Some entry → x.q ≡ q → entry.cid ≡ cid → ⊥
     new x entry is built z c =
         let proper : IsProper (events.Submit x) = subst IsProper is g.proper in
-        let its : entry.cid ≡ x.cid = ap (λ (y : SubEntry). y.cid) (carries_entry x entry proper.draft built) in
+        let its : entry.cid ≡ x.cid = ap (λ (y : SubEntry). y.cid) (carries_entry x entry proper.draft built) ∙ entry_cid x in
         true≢false (sym (rw (eq-eqb x.q q z, eq-eqb x.cid cid (sym its ∙ c)) refl) ∙ far x is)
 
 pub no_entry_step : (q cid : ℕ) → (q == 0) ≡ false → (s : State) (e : Event) (reply : Reply) → Going s e reply → ((d : DraftContents) → e ≡ events.Submit d → ((d.q == q) && (d.cid == cid)) ≡ false)
@@ -243,7 +244,7 @@ entry_on s e reply g q cid wanted other far = record {
     clash : (x : DraftContents) (entry : SubEntry) → e ≡ events.Submit x → x.entry ≡ Some entry → x.q ≡ q → entry.cid ≡ cid → ⊥
     clash x entry is built z c =
         let g' : Going s (events.Submit x) reply = subst (λ (y : Event). Going s y reply) is g in
-        let its : entry.cid ≡ x.cid = ap (λ (y : SubEntry). y.cid) (carries_entry x entry g'.proper.draft built) in
+        let its : entry.cid ≡ x.cid = ap (λ (y : SubEntry). y.cid) (carries_entry x entry g'.proper.draft built) ∙ entry_cid x in
         true≢false (sym (rw (eq-eqb x.q q z, eq-eqb x.cid cid (sym its ∙ c)) refl) ∙ far x is)
 
 jobs_keep : (s : State) (e : Event) (reply : Reply) → Accepts s e reply → (q cid : ℕ) (entry : SubEntry) → HasEntry s.controller.queues s.controller.jobs q cid entry
@@ -295,7 +296,8 @@ submitted_first s d g entry built r request its_queue its_cid asked moves l =
       | inl e ↦ let h = rw e at live in absurd (true≢false (sym h))
       | inr (queue, e) ↦
           let pair = pair_at s g.stood.grounds d.q queue e in
-          let its : entry ≡ draft_entry d = carries_entry d entry g.proper.draft built in
+          let its : entry ≡ io_entry d.cid d.request (spelling (draft_first d)) =
+          carries_entry d entry g.proper.draft built ∙ draft_of_blocks d (moves_blocks d.request.kind (ap (λ (x : Request). moves_data x.kind) asked ∙ moves)) in
           let all : AllByRecursion (λ (y : SubEntry). y.cid ≡ r.cid → y ≡ io_entry r.cid request (spelling l.first)) (unfetched_at (change d.q (λ at. record at { unfetched = at.unfetched ++ entry ∷ [] }) s.controller.queues) d.q) =
           subst (λ (qs : List ServedQueue). AllByRecursion (λ (y : SubEntry). y.cid ≡ r.cid → y ≡ io_entry r.cid request (spelling l.first)) (unfetched_at qs d.q)) queues
           (subst (λ (n : ℕ). AllByRecursion (λ (y : SubEntry). y.cid ≡ r.cid → y ≡ io_entry r.cid request (spelling l.first)) (unfetched_at (a.after_submit d s).controller.queues n)) its_queue l.entry.unfetched) in
@@ -336,7 +338,8 @@ submitted_first s d g entry built r request its_queue its_cid asked moves l =
 -- Every event
 
 chains_move : (drafts : List DraftContents) (s : State) (e : Event) (reply : Reply) → Going s e reply
-    → RecordsMove (λ r. OwnsFit r.q r.work (pages_of r) × ChainKnown drafts s r) (λ r. CommandStands (a.after s e reply).memory (a.after s e reply).controller.queues (a.after s e reply).controller.jobs r → ChainKnown (submitted_by e reply ++ drafts) (a.after s e reply) r) s e
+    → RecordsMove (λ r. OwnsFit Modelled r.q r.work (pages_of r) × ChainKnown drafts s r)
+    (λ r. CommandStands (a.after s e reply).memory (a.after s e reply).controller.queues (a.after s e reply).controller.jobs r → ChainKnown (submitted_by e reply ++ drafts) (a.after s e reply) r) s e
 chains_move drafts s e reply g = record {
   stays = λ r within free p stands sub. kept r within sub r.work p.0 (p.1 sub);
   reserves = λ d stands sub. absurd (true≢false (sym sub));
@@ -349,7 +352,7 @@ chains_move drafts s e reply g = record {
   collects = λ r p stands sub. absurd (true≢false (sym sub));
 }
   where
-    kept : (r : Record) → In r s.host.records → is_submitted r.phase ≡ true → (w : Work) → OwnsFit r.q w (pages_of r) → ChainedIfIo drafts s r w → ChainedIfIo (submitted_by e reply ++ drafts) (a.after s e reply) r w
+    kept : (r : Record) → In r s.host.records → is_submitted r.phase ≡ true → (w : Work) → OwnsFit Modelled r.q w (pages_of r) → ChainedIfIo drafts s r w → ChainedIfIo (submitted_by e reply ++ drafts) (a.after s e reply) r w
     kept r within sub (Management adm) fit h = tt
     kept r within sub (Io request) fit h = record {
       draft = h.draft;
@@ -396,8 +399,10 @@ chained_on drafts s e reply g h =
     let stood = stood_on s e reply g.proper g.ok g.trusted g.stood in
     all_in_both (CommandStands t.memory t.controller.queues t.controller.jobs) (λ r. CommandStands t.memory t.controller.queues t.controller.jobs r → ChainKnown (submitted_by e reply ++ drafts) t r) (ChainKnown (submitted_by e reply ++ drafts) t) t.host.records
     (λ r within f c. f c)
-    (records_event (λ r. OwnsFit r.q r.work (pages_of r) × ChainKnown drafts s r) (λ r. CommandStands t.memory t.controller.queues t.controller.jobs r → ChainKnown (submitted_by e reply ++ drafts) t r) s e reply (chains_move drafts s e reply g) g.ok g.stood.grounds
-    (all_in_both (ChainKnown drafts s) (λ r. OwnsFit r.q r.work (pages_of r)) (λ r. OwnsFit r.q r.work (pages_of r) × ChainKnown drafts s r) s.host.records (λ r within f p. (f, p)) g.stood.grounds.stands.0.admins h))
+    (records_event (λ r. OwnsFit Modelled r.q r.work (pages_of r) × ChainKnown drafts s r)
+    (λ r. CommandStands t.memory t.controller.queues t.controller.jobs r → ChainKnown (submitted_by e reply ++ drafts) t r) s e reply (chains_move drafts s e reply g) g.ok g.stood.grounds
+    (all_in_both (ChainKnown drafts s) (λ r. OwnsFit Modelled r.q r.work (pages_of r)) (λ r. OwnsFit Modelled r.q r.work (pages_of r) × ChainKnown drafts s r) s.host.records
+    (λ r within f p. (f, p)) (admins_of s g.stood.grounds) h))
     stood.commands
 
 refused_same : (drafts : List DraftContents) (e : Event) (why : Refusal) (touched : List ℕ) (s : State) → AllChained drafts s → AllChained (submitted_by e (events.Refused why touched) ++ drafts) s

@@ -20,7 +20,7 @@ use Rattle.machine_model.specs.{Opening.{Opens, opening, served_queue as opened}
 use Rattle.machine_model.specs.Refusals.{host_queue, next_rung, job_at, is_live, is_deleting, is_asked, in_service, is_submitted, is_drafted, is_held, front_completion, entry_of, record_is, refusal_of}
 use Rattle.machine_model.specs.State.{State, HostQueue, ServedQueue, Job, Record, PostedCompletion, is_at, record_at, with_record, without_record, pages_of}
 use Rattle.machine_model.specs.{Step.{IsController, HostPart, resets, host_part, reaped, reaped_entry}, Work.Work, declared.words.HostState.HostState}
-use Rattle.machine_model.specs.declared.words.{HostState.TheVariants.{Live, Deleting}, Phase.{Phase, TheVariants.Held}, Reaped.TheVariants.{Empty, Rejected}}
+use Rattle.machine_model.specs.declared.words.{HostState.TheVariants.{Live, Deleting}, Peer.TheVariants.{Modelled}, Phase.{Phase, TheVariants.Held}, Reaped.TheVariants.{Empty, Rejected}}
 use Rattle.machine_model.specs.declared.words.{Refusal.Refusal, Work.TheVariants.Io}
 use Rattle.run_laws.proofs.{Causes.{any_longer, any_last}, Moves.{JobsMove, jobs_event, queues_walk, QueueMove, queues_event, told_entry}, OneEnd.opened_lists}
 use Rattle.run_laws.{proofs.ReadsKept.{Member, members}, specs.Ends.{renews_by, renews, since_renewed, submits_by, submits, WasLost, WasLostByReset}}
@@ -470,7 +470,7 @@ reaped_told : (done : List Made) (s : State) (e : Event) (reply : Reply) → Acc
 reaped_told done s e reply ok t stood answers q cid st request r n is at w k =
     let an = reaped_completion s q cid t n in
     let ids = ids_of s q cid r at in
-    let other : (q == 0) ≡ false = ap (λ (x : ℕ). x == 0) (sym ids.0) ∙ subst (λ (x : Work). OwnsFit r.q x (pages_of r)) w k.0.fits in
+    let other : (q == 0) ≡ false = ap (λ (x : ℕ). x == 0) (sym ids.0) ∙ subst (λ (x : Work). OwnsFit Modelled r.q x (pages_of r)) w k.0.fits in
     let told = first_told (CompletionTold (done ++ made_of s e reply ∷ []) q) s.controller.queues q an.0 an.1
     (completions_longer done s (made_of s e reply) q (λ x within. completion_not_submitted s e reply ok stood q x within) (answers q other)) in
     let status : an.0.status ≡ st = told_entry s q (entry_of q an.0) st (sym (ap (λ (o : Option ComEntry). status_in (option_map_or (reaped_entry s q) o Empty)) an.3) ∙ is) in

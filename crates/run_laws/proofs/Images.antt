@@ -11,8 +11,8 @@ use Rattle.entry_codec.specs.{Status.is_success, declared.{io_opcode.TheConstant
 use Rattle.entry_codec.specs.declared.status.TheConstants.Status.{SUCCESS, COMPARE_FAILURE, ABORT_REQUESTED, ABORTED_SQ_DELETION, INVALID_OPCODE, INVALID_NAMESPACE, LBA_OUT_OF_RANGE}
 use Rattle.entry_codec.specs.declared.submission.SubEntry.{SubEntry}
 use Rattle.io_commands.{proofs.Building.entry_blocks, specs.{Asked.Request, DataBytes.gathered, Drafts.{DraftContents, io_entry, FitsDraft, HoldsPages, BuiltDraftsSpell}}}
-use Rattle.io_commands.specs.{Jobs.{verdict_of, direction_of_entry, kind_of_opcode, first_block, block_number}, Requests.{direction_of, moves_data, opcode_of}}
-use Rattle.io_commands.specs.{Values.numbers_of, declared.request.Kind.{Kind, TheVariants.{Read, Compare}}}
+use Rattle.io_commands.specs.{Jobs.{verdict_of, direction_of_entry, kind_of_opcode, first_block, block_number}, Requests.{direction_of, is_admin, moves_data, opcode_of}}
+use Rattle.io_commands.specs.{Values.numbers_of, declared.request.Kind.{Kind, TheVariants.{Read, Compare, Admin}}}
 use Rattle.machine_model.proofs.{Counting.times-cons, HostLeaves.ids_of, Steps.{managed_by, Accepts, same_lists, permitted}}
 use Rattle.machine_model.{proofs.Tokens.{is_job as is_job_tokens}, specs.{After.final_status, Events.{Event, Reply}}}
 use Rattle.machine_model.specs.{Image.{Made, draft_of, submitted_by, written_by, succeeds, image_by, image_from}, Memory.with_pages, Opening.opening}
@@ -49,10 +49,11 @@ entry_block cid r sgl1 = omega arith
 
 -- The draft of a job's command
 
--- a kind that moves no data counts as a source
-moves_where_source : (kind : Kind) → (direction_of kind ≡ Source → moves_data kind ≡ true) → moves_data kind ≡ true
-moves_where_source Read h = refl
-moves_where_source kind h = h refl
+-- a kind of blocks that moves no data counts as a source
+moves_where_source : (kind : Kind) → is_admin kind ≡ false → (direction_of kind ≡ Source → moves_data kind ≡ true) → moves_data kind ≡ true
+moves_where_source Read far h = refl
+moves_where_source (Admin command) far h = absurd (true≢false far)
+moves_where_source kind far h = h refl
 
 pub record JobDraft (drafts : List DraftContents) (s : State) (q cid : ℕ) (j : Job) : Type 0 where
   pub list : JobList s j
@@ -77,12 +78,12 @@ job_draft drafts s q cid j stood known other at =
       latest = subst (λ (n : ℕ). draft_of n cid drafts ≡ Some of.draft) (rec.0 ∙ eqb-true j.q q ids.0) (subst (λ (n : ℕ). draft_of l.command.q n drafts ≡ Some of.draft) (rec.1 ∙ eqb-true j.entry.cid cid ids.1) of.latest);
       opcode = opcode_asked s j l;
       block = ap first_block l.entry ∙ entry_block l.command.cid l.request (spelling l.list.first);
-      moves = λ v is ok. moves_where_source l.request.kind (λ source. list_moves s j l (carries l source v is ok).known);
+      moves = λ v is ok. moves_where_source l.request.kind l.sized.blocks (λ source. list_moves s j l (carries l source v is ok).known);
       bytes = λ source v is ok. all_carried s stood j l (dir l source) of.draft.data_pages of.pages (of.stand source) v is (carries l source v is ok);
     }
   where
     dir : (l : JobList s j) → direction_of l.request.kind ≡ Source → direction_of_entry j.entry ≡ Source
-    dir l source = ap direction_of_entry l.entry ∙ entry_direction l.command.cid l.request (spelling l.list.first) ∙ source
+    dir l source = ap direction_of_entry l.entry ∙ entry_direction l.command.cid l.request (spelling l.list.first) l.sized.blocks ∙ source
 
     carries : (l : JobList s j) → direction_of l.request.kind ≡ Source → (v : Status) → j.verdict ≡ Some v → is_success v ≡ true → Carries s j
     carries l source v is ok = all-found (JobKnown s) (is_job q cid) s.controller.jobs j at known.jobs other (dir l source) (ap goes_well is ∙ ok)
@@ -266,9 +267,10 @@ namespace_left done blocks j v failed known h fine =
     (same_status v LBA_OUT_OF_RANGE) (nat_lt blocks (first_block j.entry + block_number j.entry))
     failed known h fine
 
-compare_kind : (kind : Kind) → (opcode_of kind == COMPARE) ≡ true → kind ≡ Compare
-compare_kind Compare is = refl
-compare_kind kind is = absurd (true≢false (sym is))
+compare_kind : (kind : Kind) → is_admin kind ≡ false → (opcode_of kind == COMPARE) ≡ true → kind ≡ Compare
+compare_kind Compare far is = refl
+compare_kind (Admin command) far is = absurd (true≢false far)
+compare_kind kind far is = absurd (true≢false (sym is))
 
 told : (done : List Made) (drafts : List DraftContents) (s : State) (q cid : ℕ) (j : Job) (d : DraftContents) → Traced done s → Known drafts s → job_at s q cid ≡ Some j → refusal_of s (events.Complete q cid) ≡ None
     → (j.entry.opcode == COMPARE) ≡ true → draft_of q cid drafts ≡ Some d
@@ -292,7 +294,7 @@ told done drafts s q cid j d traced known at none compare latest fine = elim (ca
         same = some_is (sym k.latest ∙ latest)
 
         kind : k.list.request.kind ≡ Compare
-        kind = compare_kind k.list.request.kind (ap (λ (n : ℕ). n == COMPARE) (sym k.opcode) ∙ compare)
+        kind = compare_kind k.list.request.kind k.list.sized.blocks (ap (λ (n : ℕ). n == COMPARE) (sym k.opcode) ∙ compare)
 
         its_kind : kind_of_opcode j.entry.opcode ≡ Some Compare
         its_kind = ap kind_of_opcode (k.opcode ∙ ap opcode_of kind)
@@ -406,7 +408,7 @@ failures_of_compares image earlier later m end q cid run io status =
     sym (ap (λ (o : Option Job). option_map_or (λ j. j.entry.opcode == COMPARE) o false) x.1) ∙ only_compare earlier m q cid (statuses_have_causes image earlier later m end q cid COMPARE_FAILURE run io status) in (
       k.of.draft,
       k.latest,
-      ap (λ (r : Request). r.kind) k.of.asked ∙ compare_kind k.list.request.kind (ap (λ (n : ℕ). n == COMPARE) (sym k.opcode) ∙ opcode),
+      ap (λ (r : Request). r.kind) k.of.asked ∙ compare_kind k.list.request.kind k.list.sized.blocks (ap (λ (n : ℕ). n == COMPARE) (sym k.opcode) ∙ opcode),
     )
 
 -- A run is made longer by one step.

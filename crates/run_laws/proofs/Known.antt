@@ -209,7 +209,7 @@ records_known drafts s e reply proper ok stood = record {
 -- The jobs of sources
 
 pub source_request : (s : State) (j : Job) (l : JobList s j) → direction_of_entry j.entry ≡ Source → direction_of l.request.kind ≡ Source
-source_request s j l dir = sym (entry_direction l.command.cid l.request (spelling l.list.first)) ∙ ap direction_of_entry (sym l.entry) ∙ dir
+source_request s j l dir = sym (entry_direction l.command.cid l.request (spelling l.list.first) l.sized.blocks) ∙ ap direction_of_entry (sym l.entry) ∙ dir
 
 pub course_stays : (s : State) (e : Event) (reply : Reply) → Accepts s e reply → Stood s → (j : Job) (l : JobList s j) → course_of (a.after s e reply) j ≡ course_of s j
 course_stays s e reply ok stood j l =
@@ -283,7 +283,7 @@ drafts_elsewhere : (s : State) (e : Event) (reply : Reply) → Accepts s e reply
 drafts_elsewhere s e reply ok stood d is =
     let x = submit_record s d (subst (λ (x : Event). refusal_of s x ≡ None) is ok.0) in
     let io = asked_work d.request x.0.work (fits_work d x.0 x.2) in
-    io_other s d.q d.cid x.0 io.0 stood.grounds.stands.0 x.1 io.1
+    io_other s d.q d.cid x.0 io.0 stood.grounds.modelled stood.grounds.stands.0 x.1 io.1
 
 pub known_on : (drafts : List DraftContents) (s : State) (e : Event) (reply : Reply) → IsProper e → Accepts s e reply → Stood s → Known drafts s → Known (submitted_by e reply ++ drafts) (a.after s e reply)
 known_on drafts s e reply proper ok stood h = record {

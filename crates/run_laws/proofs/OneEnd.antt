@@ -16,13 +16,13 @@ use Rattle.machine_model.specs.Refusals.{is_submitted, host_queue, served_queue,
 use Rattle.machine_model.specs.State.{HostQueue, ServedQueue, PostedCompletion, State, Record, is_at, record_at, pages_of, with_record}
 use Rattle.machine_model.specs.Step.{HostPart, reaped, reaped_as, reaped_entry, submitted_at, fits_ring, IsController, Answers, Step, finished_from}
 use Rattle.machine_model.specs.{Trusted.{TrustedRun, Steps}, Work.Work, declared.words.{HostState.TheVariants.{Live, Deleting}, Phase.Phase}}
-use Rattle.machine_model.specs.declared.words.{Phase.TheVariants.{Drafted, Submitted, Held, Collected}, Reaped.TheVariants.{Empty, Done, AdminDone, Rejected}}
+use Rattle.machine_model.specs.declared.words.{Peer.TheVariants.{Modelled}, Phase.TheVariants.{Drafted, Submitted, Held, Collected}, Reaped.TheVariants.{Empty, Done, AdminDone, Rejected}}
 use Rattle.machine_model.specs.declared.words.{Refusal.Refusal, RejectedFor.TheVariants.{WrongQueue, BadHead, UnknownId}, Work.TheVariants.{Io, Management}}
 use Rattle.two_sides.proofs.Along.{along_proper, trusted_end, made_of, Carried, Unforged, unforged_next, unforged_front, unforged_back, unforged_run, Before, keeps, cut, each_proper_step, trusted_step_by, before_step}
 use Rattle.two_sides.proofs.{ControllerMoves.{posts_completion, posted_completion, finished, cleared, fetch_by, complete_by}, Heads.{changed_at, head_at, no_conflict}}
 use Rattle.two_sides.proofs.{JobLaws.not_zero as positive, NeverFull.{stood_on, stood_at_opening}, PlacesKept.in_hand}
 use Rattle.two_sides.proofs.{Provided.{sent_found, all_of}, Served.{Stood, completions_at}, Standing.seen_trusted}
-use Rattle.two_sides.proofs.TiedAll.{Grounds, ring_in, pair_at}
+use Rattle.two_sides.proofs.TiedAll.{Grounds, admins_of, ring_in, pair_at}
 use Rattle.admin_commands.specs.{Entries.{admin_entry, named_queue}, declared.{AdminKind.TheVariants.{Abort, DeleteSq, DeleteCq}, SqState.TheVariants.Stopping}}
 use Rattle.entry_codec.specs.{Status.is_success, declared.{completion.ComEntry.ComEntry, hints.Hints.Hints, status.{Status.Status, TheConstants.Status.ABORTED_SQ_DELETION}}}
 use Rattle.entry_codec.specs.declared.submission.SubEntry.{SubEntry}
@@ -359,12 +359,6 @@ front_reaped s f t q there =
     fits_there None eh some at an rest eq is = absurd (true≢false some)
     fits_there (Some queue) eh some at an rest eq is = fits queue at an rest eh eq is
 
-    as_work : (an : PostedCompletion) (r : Record) (w : Work) → r.work ≡ w → r.q ≡ q → OwnsFit r.q r.work (pages_of r) → reaped_as q (entry_of q an) w ≡ (if q == 0 then AdminDone an.cid an.status an.dw0 else Done an.cid an.status)
-    as_work an r (Io request) is rq fit =
-        let fit' : OwnsFit r.q (Io request) (pages_of r) = subst (λ (x : Work). OwnsFit r.q x (pages_of r)) is fit in
-        sym (ap (λ (b : Bool). if b then AdminDone an.cid an.status an.dw0 else Done an.cid an.status) (ap (λ (k : ℕ). k == 0) (sym rq) ∙ fit'))
-    as_work an r (Management adm) is rq fit = grind (arith, eq-eqb)
-
     submitted : (an : PostedCompletion) (r : Record) → record_at s.host q an.cid ≡ Some r → is_submitted r.phase ≡ true → submitted_at s q an.cid ≡ Some r
     submitted an r e sub = ap (λ (o : Option Record). option_map_or (λ r. if is_submitted r.phase then Some r else None) o None) e ∙ ap (λ (b : Bool). if b then Some r else None) sub
 
@@ -372,11 +366,9 @@ front_reaped s f t q there =
         → reaped_entry s q (entry_of q an) ≡ (if q == 0 then AdminDone an.cid an.status an.dw0 else Done an.cid an.status)
     entry at an rest eq is =
         let r = completed_record s f.stood q at an rest eq is in
-        let fit = all-found (λ r. OwnsFit r.q r.work (pages_of r)) (is_at q an.cid) s.host.records r.0 r.1 f.stood.grounds.stands.0.admins in
-        ap (λ (b : Bool). if not b then Rejected WrongQueue else if not (fits_ring s q (entry_of q an)) then Rejected BadHead else option_map_or (λ r. reaped_as q (entry_of q an) r.work) (submitted_at s q an.cid) (Rejected UnknownId)) (eq-eqb q q refl)
-        ∙ ap (λ (b : Bool). if not b then Rejected BadHead else option_map_or (λ r. reaped_as q (entry_of q an) r.work) (submitted_at s q an.cid) (Rejected UnknownId)) (fits_there (host_queue s q) refl there at an rest eq is)
-        ∙ ap (λ (o : Option Record). option_map_or (λ r. reaped_as q (entry_of q an) r.work) o (Rejected UnknownId)) (submitted an r.0 r.1 r.2)
-        ∙ as_work an r.0 r.0.work refl (ids_of s q an.cid r.0 r.1).0 fit
+        ap (λ (b : Bool). if not b then Rejected WrongQueue else if not (fits_ring s q (entry_of q an)) then Rejected BadHead else option_map_or (λ r. reaped_as q (entry_of q an)) (submitted_at s q an.cid) (Rejected UnknownId)) (eq-eqb q q refl)
+        ∙ ap (λ (b : Bool). if not b then Rejected BadHead else option_map_or (λ r. reaped_as q (entry_of q an)) (submitted_at s q an.cid) (Rejected UnknownId)) (fits_there (host_queue s q) refl there at an rest eq is)
+        ∙ ap (λ (o : Option Record). option_map_or (λ r. reaped_as q (entry_of q an)) o (Rejected UnknownId)) (submitted an r.0 r.1 r.2)
 
     first : (at : ServedQueue) → served_queue s q ≡ Some at → (ans : List PostedCompletion) → at.completions ≡ ans → option_map_or (reaped_entry s q) (option_map (entry_of q) (front_completion ans)) Empty ≡ front q ans
     first at eq [] is = refl
@@ -521,14 +513,15 @@ pub reap_leaves : (s : State) (q cid : ℕ) (st : Status) → Stood s → (q == 
 reap_leaves s q cid st stood other n = elim (option_is (record_at s.host q cid)) [
   | inl at ↦ absurd (cc (sym at ∙ (reaped_submitted s q cid n).1))
   | inr (r, at) ↦
-      let owns = all-found (λ r. OwnsFit r.q r.work (pages_of r)) (is_at q cid) s.host.records r at stood.grounds.stands.0.admins in
+      let owns = all-found (λ r. OwnsFit Modelled r.q r.work (pages_of r)) (is_at q cid) s.host.records r at (admins_of s stood.grounds) in
       elim (option_is (seen_entry s q)) [
         | inl none ↦ absurd (cc (sym (ap (λ (o : Option ComEntry). named (option_map_or (reaped_entry s q) o Empty)) none) ∙ n))
         | inr (e, seen) ↦ rw (at, seen) (of_work r at r.work refl owns e.hints (a.heard q e s))
       ]
 ]
   where
-    of_work : (r : Record) → record_at s.host q cid ≡ Some r → (w : Work) → r.work ≡ w → OwnsFit r.q w (pages_of r) → (hints : Hints) (t : State) → AllByRecursion (NotIn is_submitted q cid) (a.after_work w q cid st hints t).host.records
+    of_work : (r : Record) → record_at s.host q cid ≡ Some r → (w : Work) → r.work ≡ w → OwnsFit Modelled r.q w (pages_of r) → (hints : Hints) (t : State)
+        → AllByRecursion (NotIn is_submitted q cid) (a.after_work w q cid st hints t).host.records
     of_work r at (Io request) is fit hints t = not_with is_submitted q cid (a.held st hints) (λ x. refl) t.host.records
     of_work r at (Management adm) is fit hints t = absurd (true≢false (sym (eq-eqb q 0 (sym (ids_of s q cid r at).0 ∙ fit.0)) ∙ other))
 

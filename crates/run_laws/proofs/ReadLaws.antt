@@ -12,7 +12,7 @@ use Rattle.machine_model.proofs.{HostLeaves.ids_of, Sound.{named, status_in}, St
 use Rattle.machine_model.specs.{Claims.OwnsFit, Events.{Event, Reply}, Image.{Made, draft_of, image_after, undiscarded}}
 use Rattle.machine_model.specs.{Refusals.{is_submitted, is_held, record_is, refusal_of}, State.{State, Record, is_at, record_at, pages_of}}
 use Rattle.machine_model.specs.{Status.same_status, Step.{Step, asked_by, pages_with_bytes}, Trusted.{TrustedRun, drafts_of}}
-use Rattle.machine_model.specs.{Work.Work, declared.words.{Phase.Phase, Reaped.TheVariants.{Done}, Work.TheVariants.{Io, Management}}}
+use Rattle.machine_model.specs.{Work.Work, declared.words.{Peer.TheVariants.{Modelled}, Phase.Phase, Reaped.TheVariants.{Done}, Work.TheVariants.{Io, Management}}}
 use Rattle.run_laws.proofs.{Carrying.{Gathers, Stands, gathers_pieces, all_stand, some_stand}, Causes.{same_is, statuses_have_causes}}
 use Rattle.run_laws.proofs.EndsTold.{DeletedSince, CompletedIn, EndedIn, HeldTold, Told, told_carried, told_at_opening, deleted_before, first_told}
 use Rattle.run_laws.proofs.{Images.imaged_before, Moves.told_entry}
@@ -21,7 +21,7 @@ use Rattle.run_laws.proofs.ReadsWalked.{ReadsSo, images_of, images_append, reads
 use Rattle.run_laws.specs.Blocks.{collected_of, reads, is_read, blocks_of_request, partly, reads_give_their_blocks, stopped_reads_give_a_prefix}
 use Rattle.run_laws.specs.Ends.{retires_by, WasCompleted, WasLost, WasLostByReset, CauseOfEnd, Succeeded, Aborted, Stopped, Lost, LostByReset, Unknown, WithoutNamespace, PastImage, Differed, ends_come_from_completions, retired_queues_were_deleted, collects_tell_how_commands_ended, every_collect_has_its_cause}
 use Rattle.run_laws.specs.Statuses.{aborts, deletes, since_fetch, is_unknown, misses_namespace, passes_image, is_compare, fetches}
-use Rattle.two_sides.proofs.{Along.{Before, keeps, run_before}, JobLaws.not_zero as positive, PlacesKept.reaped_completion}
+use Rattle.two_sides.proofs.{Along.{Before, keeps, run_before}, JobLaws.not_zero as positive, PlacesKept.reaped_completion, TiedAll.admins_of}
 use Rattle.two_sides.proofs.Served.{good_is, Stood}
 use Rattle.page_ledger.specs.Owners.{is_among}
 use Rattle.block_image.specs.Blocks.{blocks_at}
@@ -85,7 +85,8 @@ collect_told : (done : List Made) (s next : State) (q cid : ℕ) (f : FinishedCo
 collect_told done s next q cid f step t h = elim (option_is (record_at s.host q cid)) [
   | inl at ↦ absurd (true≢false (sym (rw at at (not-false _ there))))
   | inr (r, at) ↦
-      of_work r at (only_held r.phase (rw at at (not-false _ there)) (rw at at sent)) r.work refl (all-found (λ r. OwnsFit r.q r.work (pages_of r)) (is_at q cid) s.host.records r at h.stood.grounds.stands.0.admins) (rw at at ok.1)
+      of_work r at (only_held r.phase (rw at at (not-false _ there)) (rw at at sent)) r.work refl
+      (all-found (λ r. OwnsFit Modelled r.q r.work (pages_of r)) (is_at q cid) s.host.records r at (admins_of s h.stood.grounds)) (rw at at ok.1)
 ]
   where
     ok : Accepts s (events.Collect q cid) (events.Collects f)
@@ -98,7 +99,7 @@ collect_told done s next q cid f step t h = elim (option_is (record_at s.host q 
     sent = first_fails (record_is (λ r. is_submitted r.phase) s q cid) refusal.NotYet []
         (rest_fails (not (record_is (λ r. is_submitted r.phase || is_held r.phase) s q cid)) refusal.Stranger ((record_is (λ r. is_submitted r.phase) s q cid, refusal.NotYet) ∷ []) ok.0)
 
-    of_work : (r : Record) → record_at s.host q cid ≡ Some r → is_held r.phase ≡ true → (w : Work) → r.work ≡ w → OwnsFit r.q w (pages_of r)
+    of_work : (r : Record) → record_at s.host q cid ≡ Some r → is_held r.phase ≡ true → (w : Work) → r.work ≡ w → OwnsFit Modelled r.q w (pages_of r)
         → option_and_then (λ asked. option_map (λ st. record { q = r.q; cid = r.cid; request = asked; status = st; hints = r.hints; data_pages = pages_with_bytes s.memory r.data_pages; chain_pages = pages_with_bytes s.memory r.chain_pages }) r.status) (asked_by w) ≡ Some f
         → CollectTold done q cid f.status
     of_work r at held (Io request) is fit e =

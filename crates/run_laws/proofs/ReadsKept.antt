@@ -22,15 +22,15 @@ use Rattle.machine_model.specs.{Image.{draft_of, submitted_by}, Memory.memory_of
 use Rattle.machine_model.specs.Refusals.{is_drafted, is_submitted, is_held, next_rung, refusal_of, job_at, is_job}
 use Rattle.machine_model.specs.Standing.{IsSized, StandsAs, CommandStands, unfetched_at, HasEntry}
 use Rattle.machine_model.specs.{State.{State, Record, Job, PostedCompletion, is_at, record_at, pages_of, ServedQueue}, Weights.{total, one}, Work.Work}
-use Rattle.machine_model.specs.declared.words.{Phase.Phase, Work.TheVariants.{Io, Management}}
+use Rattle.machine_model.specs.declared.words.{Peer.TheVariants.{Modelled}, Phase.Phase, Work.TheVariants.{Io, Management}}
 use Rattle.run_laws.proofs.Carrying.{Stands, reach, target_in, list_ordered, all_reached, Received, received_still}
 use Rattle.run_laws.proofs.{Causes.{goes_well, none_found, has_verdict}, Images.{entry_kind, entry_block}}
 use Rattle.run_laws.proofs.Known.{same_draft, submit_record, course_stays, fault_fails}
 use Rattle.run_laws.{proofs.Moves.{takes, JobsMove, jobs_event, begun_job, QueueMove, queues_event}, specs.Statuses.fetches_by}
 use Rattle.two_sides.proofs.{Commands.{Walking, walk_writes, in_hand_is}, Heads.no_conflict as not_conflicting}
-use Rattle.two_sides.proofs.PlacesKept.{running_not_past, InHand, in_hand, first_is}
+use Rattle.two_sides.proofs.PlacesKept.{entry_cid, running_not_past, InHand, in_hand, first_is}
 use Rattle.two_sides.proofs.Provided.{In, in_at, in_found, is_found, all_in, all_drop_one, all_append, sent_found}
-use Rattle.two_sides.proofs.{Served.{good_is, Stood, data_of, entry_direction, parts_count, JobList, job_list, course_whole}, Standing.list_at, TiedAll.Grounds}
+use Rattle.two_sides.proofs.{Served.{good_is, Stood, data_of, entry_direction, parts_count, JobList, job_list, course_whole}, Standing.list_at, TiedAll.{Grounds, admins_of}}
 use Rattle.two_sides.proofs.Untouched.{owned_once, among_counts, IsSubmittedPage, untouched_kept}
 use Rattle.page_memory.proofs.Lists.{all-at, found_is, all-found, some_is, all-slots}
 
@@ -102,7 +102,7 @@ ReadRecord drafts at s r = (is_submitted r.phase || is_held r.phase) ≡ true �
 pub record Member (s : State) (r : Record) : Type 0 where
   pub only : (q cid : ℕ) (r0 : Record) → record_at s.host q cid ≡ Some r0 → is_at q cid r ≡ true → r ≡ r0
   pub stands : CommandStands s.memory s.controller.queues s.controller.jobs r
-  pub fits : OwnsFit r.q r.work (pages_of r)
+  pub fits : OwnsFit Modelled r.q r.work (pages_of r)
 
 pub members : (s : State) → Stood s → AllByRecursion (Member s) s.host.records
 members s stood =
@@ -110,14 +110,14 @@ members s stood =
     (λ k x e. record {
       only = λ q cid r0 found is. all-at (λ r. is_at q cid r ≡ true → r ≡ r0) s.host.records k x e (is_found q cid s.host.records r0 found (stood.grounds.stands.0.once q cid)) is;
       stands = all-at (CommandStands s.memory s.controller.queues s.controller.jobs) s.host.records k x e stood.commands;
-      fits = all-at (λ r. OwnsFit r.q r.work (pages_of r)) s.host.records k x e stood.grounds.stands.0.admins;
+      fits = all-at (λ r. OwnsFit Modelled r.q r.work (pages_of r)) s.host.records k x e (admins_of s stood.grounds);
     })
 
 pub sized_of : (s : State) (r : Record) (request : Request) → Member s r → r.work ≡ Io request → IsSized r request
 sized_of s r request m w = (subst (StandsAs s.memory s.controller.queues s.controller.jobs r) w m.stands).0
 
 pub queue_of : (s : State) (r : Record) (request : Request) → Member s r → r.work ≡ Io request → (r.q == 0) ≡ false
-queue_of s r request m w = subst (λ (x : Work). OwnsFit r.q x (pages_of r)) w m.fits
+queue_of s r request m w = subst (λ (x : Work). OwnsFit Modelled r.q x (pages_of r)) w m.fits
 
 -- Its pages stay
 
@@ -246,7 +246,7 @@ targets_length s r request m w kind =
     let sized = sized_of s r request m w in
     length-targets Destination (parts_of request.pieces r.data_pages)
     ∙ ap (λ (d : Direction). counted_in d (parts_of request.pieces r.data_pages)) (sym (ap direction_of kind))
-    ∙ parts_count request r.data_pages sized.good sized.pages ∙ ap (λ (k : Kind). need_of k request.block_size request.blocks) kind
+    ∙ parts_count request r.data_pages sized.good sized.blocks sized.pages ∙ ap (λ (k : Kind). need_of k request.block_size request.blocks) kind
     ∙ ap (λ (size : BlockSize). block_bytes size * request.blocks) sized.size
 
 -- a job that begins
@@ -290,7 +290,8 @@ pub all_came : (s : State) → Stood s → (at : Images) (r : Record) (request :
 all_came s stood at r request m w kind k j l sq sc st v reading i p target =
     let ids = job_request s r request m w j l sq sc in
     let whole = course_whole s stood j l (ap (λ (x : Request). moves_data x.kind) ids.1 ∙ ap moves_data kind) in
-    let dir : direction_of_entry j.entry ≡ Destination = ap direction_of_entry l.entry ∙ entry_direction l.command.cid l.request (spelling l.list.first) ∙ ap (λ (x : Request). direction_of x.kind) ids.1 ∙ ap direction_of kind in
+    let dir : direction_of_entry j.entry ≡ Destination =
+    ap direction_of_entry l.entry ∙ entry_direction l.command.cid l.request (spelling l.list.first) l.sized.blocks ∙ ap (λ (x : Request). direction_of x.kind) ids.1 ∙ ap direction_of kind in
     let parts : parts_of request.pieces r.data_pages ≡ parts_of l.request.pieces l.command.data_pages =
     ap (λ (x : Request). parts_of x.pieces r.data_pages) (sym ids.1) ∙ ap (λ (x : Record). parts_of l.request.pieces x.data_pages) ids.0 in
     let moved : MovesByte i (course_of s j) =
@@ -385,7 +386,7 @@ quiet_entries s e reply r request x k = record {
     clash : (d : DraftContents) (entry : SubEntry) → e ≡ events.Submit d → d.entry ≡ Some entry → d.q ≡ r.q → entry.cid ≡ r.cid → ⊥
     clash d entry is built z same =
         let proper : IsProper (events.Submit d) = subst IsProper is x.proper in
-        let cid : entry.cid ≡ d.cid = ap (λ (y : SubEntry). y.cid) (carries_entry d entry proper.draft built) in
+        let cid : entry.cid ≡ d.cid = ap (λ (y : SubEntry). y.cid) (carries_entry d entry proper.draft built) ∙ entry_cid d in
         true≢false (sym (and_from (d.q == r.q) (d.cid == r.cid) (eq-eqb d.q r.q z) (eq-eqb d.cid r.cid (sym cid ∙ same))) ∙ no_draft s e reply x.ok r x.member x.stays d is)
 
 quiet_answers : (s : State) (e : Event) (reply : Reply) (r : Record) (request : Request) (x : Quiet s e reply r request) (drafts : List DraftContents) (at : Images) (h : ReadSoFar drafts at s r request) → is_submitted r.phase ≡ true

@@ -145,7 +145,10 @@ further s q cid r request j act x o touched ok drafts at h = (
     submitted = ap (λ (y : Record). is_submitted y.phase) same.0 ∙ x.walking.list.phase
 
     dir : direction_of_entry j.entry ≡ Destination
-    dir = ap direction_of_entry x.walking.list.entry ∙ entry_direction x.walking.list.command.cid x.walking.list.request (spelling x.walking.list.list.first) ∙ ap (λ (y : Request). direction_of y.kind) same.1 ∙ ap direction_of x.kind
+    dir =
+        ap direction_of_entry x.walking.list.entry
+        ∙ entry_direction x.walking.list.command.cid x.walking.list.request (spelling x.walking.list.list.first) x.walking.list.sized.blocks
+        ∙ ap (λ (y : Request). direction_of y.kind) same.1 ∙ ap direction_of x.kind
 
     moves : moves_data x.walking.list.request.kind ≡ true
     moves = ap (λ (y : Request). moves_data y.kind) same.1 ∙ ap moves_data x.kind

@@ -3,7 +3,7 @@ use Rattle.std.specs.{Fmt.{decimal, digit_glyph}, Prelude.{ℕ, ◌+◌, ◌/◌
 use Rattle.controller_walk.specs.declared.walk.WalkState.{WalkState, TheVariants.{More, End, Fault}}
 use Rattle.entry_codec.specs.Status.{is_success, status_text}
 use Rattle.io_commands.specs.declared.{draft.FillFault.{FillFault, TheVariants.{NotASource, WrongLength}}, request.RequestFault.RequestFault}
-use Rattle.io_commands.specs.declared.request.RequestFault.TheVariants.{TooManyPieces, EmptyPiece, CrossesPage, BadCount, LengthMismatch}
+use Rattle.io_commands.specs.declared.request.RequestFault.TheVariants.{TooManyPieces, EmptyPiece, CrossesPage, BadCount, LengthMismatch, HostsOwn}
 use Rattle.machine_model.specs.declared.words.{Reaped.{Reaped, TheVariants.{Empty, Done, AdminDone, Rejected}}, Refusal.Refusal, RejectedFor.RejectedFor}
 use Rattle.machine_model.specs.declared.words.RejectedFor.TheVariants.{WrongQueue, BadHead, UnknownId}
 use Rattle.script_cli.specs.{Verbs.verb_text, declared.verb.Verb.Verb}
@@ -46,6 +46,7 @@ request_fault_name EmptyPiece = codes "EmptyPiece"
 request_fault_name CrossesPage = codes "CrossesPage"
 request_fault_name BadCount = codes "BadCount"
 request_fault_name LengthMismatch = codes "LengthMismatch"
+request_fault_name HostsOwn = codes "HostsOwn"
 
 abbrev pub fill_fault_name : FillFault → List ℕ
 fill_fault_name NotASource = codes "NotASource"

@@ -103,6 +103,7 @@ pub fn request_fault_name(why: RequestFault) -> &'static str
         RequestFault::CrossesPage => "CrossesPage",
         RequestFault::BadCount => "BadCount",
         RequestFault::LengthMismatch => "LengthMismatch",
+        RequestFault::HostsOwn => "HostsOwn",
     }
 }
 

@@ -114,7 +114,7 @@ pub const REFUSALS: [(&str, &str); 29] = [
 ];
 
 /// What is wrong with a request: what stands behind `Bad`; and why a completion is rejected.
-pub const REASONS: [(&str, &str); 8] = [
+pub const REASONS: [(&str, &str); 9] = [
     ("TooManyPieces", "a request has 1,024 pieces at most"),
     ("EmptyPiece", "a piece has length 0"),
     (
@@ -129,6 +129,7 @@ pub const REASONS: [(&str, &str); 8] = [
         "LengthMismatch",
         "the lengths of all pieces together are not the bytes of the blocks",
     ),
+    ("HostsOwn", "the host keeps this admin command to itself"),
     (
         "WrongQueue",
         "the completion names another submission queue",

@@ -17,6 +17,7 @@ fn kind_name(kind: Kind) -> &'static str {
         Kind::WriteZeroes => "write_zeroes",
         Kind::Verify => "verify",
         Kind::Flush => "flush",
+        Kind::Admin(_) => "admin",
     }
 }
 

@@ -23,7 +23,7 @@ use Rattle.page_memory.{proofs.Bytes.none_at, specs.{Memory.{Memory, counted, by
 use Rattle.page_memory.specs.declared.page.Half.TheVariants.{Submission, Completion}
 use Rattle.step_core.specs.{Opening.opening_of, Replies.ring_reply, Touching.StaysAllowed, World.sides_of}
 use Rattle.queue_pair.specs.Memory.{completion_place, completion_slot, half_pages}
-use Rattle.machine_model.specs.declared.words.BlockSizes.TheVariants.{Only512}
+use Rattle.machine_model.specs.declared.words.Peer.TheVariants.{Modelled}
 
 -- Each call of a world is a step of the machine, behind which both sides are tied.
 
@@ -275,12 +275,12 @@ next_halves n k first a b old new is_a is_b is_first is_old is_new =
 
 -- Both sides as they open
 
-pub opened_as_world : (c : Config) (image : List ℕ) (host : HostView) (pages : Pages) (halves : List QueuePages) (contents : Contents) → refusal_of_config c ≡ None → host ≡ opened_view c Only512 → pages ≡ opened_pages c
+pub opened_as_world : (c : Config) (image : List ℕ) (host : HostView) (pages : Pages) (halves : List QueuePages) (contents : Contents) → refusal_of_config c ≡ None → host ≡ opened_view c Modelled → pages ≡ opened_pages c
     → halves ≡ halves_from 0 c.entries (c.queues + 1) → contents ≡ controller.opened c.entries halves image
     → IsWorld (sides_of host contents pages true) × (state_of (sides_of host contents pages true) ≡ opening_of c image)
 opened_as_world c image host pages halves contents fits is_host is_pages is_halves is_contents =
     subst (λ (s : Sides). IsWorld s × (state_of s ≡ opening_of c image))
     (sym (ap (λ (host : HostView). sides_of host contents pages true) is_host
-    ∙ (ap (λ (pages : Pages). sides_of (opened_view c Only512) contents pages true) is_pages
-    ∙ ap (λ (contents : Contents). sides_of (opened_view c Only512) contents (opened_pages c) true) (is_contents ∙ ap (λ (halves : List QueuePages). controller.opened c.entries halves image) is_halves))))
+    ∙ (ap (λ (pages : Pages). sides_of (opened_view c Modelled) contents pages true) is_pages
+    ∙ ap (λ (contents : Contents). sides_of (opened_view c Modelled) contents (opened_pages c) true) (is_contents ∙ ap (λ (halves : List QueuePages). controller.opened c.entries halves image) is_halves))))
     (let world = opened_are_worlds c image fits in (world.1, world.0))

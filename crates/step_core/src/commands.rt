@@ -20,9 +20,10 @@ impl<A: Allocator + Copy> World<A> {
     /// # Errors
     ///
     /// The request is handed back, and nothing changed. 1. `NoQueue` for queue 0, an unknown queue, and one whose
-    /// submission half was given back and is not made again. 2. `Deleting` where it is being deleted. 3. `Bad` for the first fault
-    /// of the request. 4. `NoIdentifier` where each identifier of the queue is outstanding. 5. `NoPages` where too few pages are
-    /// free. 6. `Memory` where memory is refused.
+    /// submission half was given back and is not made again, and for an admin command. 2. `Deleting` where it is being deleted.
+    /// 3. `Bad` for the first fault of the request. 4. `OtherBlocks` where the host takes no blocks of the request's size.
+    /// 5. `NoIdentifier` where each identifier of the queue is outstanding. 6. `NoPages` where too few pages are free. 7. `Memory`
+    /// where memory is refused.
     pub fn reserve(&mut self, q: u16, request: Request<A>) -> Result<Draft<A>, Refused<Request<A>>>
         ensures step { Step self.old.state (events.Reserve q request) (reserve_reply result) self.new.state }
         ensures touches { Touches self.old.state.entries self.old.touches (events.Reserve q request) (reserve_reply result) self.new.touches }

@@ -3,7 +3,7 @@
 ghost use Rattle.std.specs.Prelude.{◌≡◌, ◌≤◌, None, IfOk, IfErr};
 ghost use Rattle.host_core.specs.Opening.{refusal_of_config, opened_view, opened_pages, RefusesOpening};
 ghost use Rattle.host_core.specs.Touching.{IsUntouched};
-ghost use Rattle.machine_model.specs.declared.words.BlockSizes.TheVariants.{Only512};
+ghost use Rattle.machine_model.specs.declared.words.Peer.TheVariants.{Modelled};
 ghost use Rattle.machine_model.specs.declared.words.OpenRefusal.TheVariants.{Memory};
 ghost use Rattle.step_core.specs.Opening.{opening_of};
 ghost use Rattle.two_sides.specs.Opening.{halves_from};
@@ -13,7 +13,7 @@ use arrayvec::ArrayVec;
 use block_image::Image;
 use controller_core::{Controller, QueuePages};
 use host_core::{Config, Host, Opened};
-use machine_model::words::{BlockSizes, OpenRefusal};
+use machine_model::words::{OpenRefusal, Peer};
 use page_memory::{Half, PageNo};
 use queue_pair::half_pages;
 use std::alloc::{Allocator, Global};
@@ -61,7 +61,7 @@ impl<A: Allocator + Copy> World<A> {
         ensures refused { IfErr result (λ refused. RefusesOpening config refused.why) }
         ensures handed_back { IfErr result (λ refused. refused.image ≡ image) }
     {
-        match Host::open(alloc, config, BlockSizes::Only512) {
+        match Host::open(alloc, config, Peer::Modelled) {
             Ok(opened) => World::over(opened, alloc, config, image),
             Err(why) => Err(OpenRefused { image, why }),
         }
@@ -79,7 +79,7 @@ impl<A: Allocator + Copy> World<A> {
         image: Image<A>,
     ) -> Result<World<A>, OpenRefused<A>>
         requires fits { refusal_of_config config ≡ None }
-        requires host { opened.host ≡ opened_view config Only512 }
+        requires host { opened.host ≡ opened_view config Modelled }
         requires pages { opened.store.pages ≡ opened_pages config }
         requires untouched { IsUntouched opened.store }
         ensures opened { IfOk result (λ world. world.state ≡ opening_of config image) }

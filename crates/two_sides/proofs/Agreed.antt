@@ -5,19 +5,19 @@ use Rattle.machine_model.specs.declared.words.Refusal.TheVariants as refusal
 use Rattle.std.proofs.Common.{◌≡◌, ℕ, ◌-◌, ◌<◌, ◌≤◌, Bool, true, false, ◌||◌, Option, Some, None, List, [], ◌∷◌, length, slice_get, if◌then◌else◌, MatchBool, arith, refl, ap, sym, ◌∙◌, subst, not, suc, zero, ◌==◌, filter, eqb-true, inl, inr, ◌⊎◌, is_some, is_none, get_or, ◌&&◌, ◌++◌}
 use Rattle.std.proofs.lemmas.{Bool.{true≢false, or_parts, cases_Bool, and_parts, Decides.nat_tests}, Option.slice_get-get_or}
 use Rattle.std.specs.{List.{AllByRecursion, list_all}, Option.option_map_or}
-use Rattle.machine_model.proofs.{Headline.{sound_from_both, steps_keep, runs_are_sound, in_limits, limits_of}, HostLeaves.{host_leaves, sizes_stay}}
+use Rattle.machine_model.proofs.{Headline.{sound_from_both, steps_keep, runs_are_sound, in_limits, limits_of}, HostLeaves.{host_leaves, peer_stays}}
 use Rattle.machine_model.proofs.Moves.{host_moves, drafted_record, sent_record, creates_cq, creates_sq}
 use Rattle.machine_model.proofs.Owned.{holds_from_sound, taken_from_out, all_reset, all_reset_queues, lost_keeps, reset_length, no_waiting, no_admin_completions, reset_admin_commands, reset_controller_length}
-use Rattle.machine_model.proofs.Sound.{asked_from_fit}
+use Rattle.machine_model.proofs.Sound.{asked_from_fit, of_blocks}
 use Rattle.machine_model.proofs.Steps.{length-with_pages, first_fails, rest_fails, unrefused, length-in_store, Accepts, IsKept, each_step, kept_anyway, part_left}
 use Rattle.machine_model.proofs.TokensKept.{AreAdminHalves, IsSizedIfIo, sized_of, reset_pairs, reset_tokens, reset_command, reset_places, reset_heads, same_length, halves_fit, live_is, tokens_to}
 use Rattle.machine_model.specs.{After.{after, course_of, next_answer, next_unit}, Agreeing.SidesAgree, Always.{LieTogether, HasHalves, HasPagesFor, IsProvided}}
 use Rattle.machine_model.specs.{Claims.IsSound, Events.{Event, Reply}, Memory.{with_pages, zeroed_pages}, Opening.{Opens, opening, is_config}}
 use Rattle.machine_model.specs.{Positions.IsInRing, Proper.IsProper}
-use Rattle.machine_model.specs.{Refusals.{refusal_of, is_live, has_sq, has_cq, job_at, causes, no_identifier, is_job, job_is, post_page, is_submitted}, Run.Run}
+use Rattle.machine_model.specs.{Refusals.{refusal_of, is_live, has_sq, has_cq, job_at, causes, reserve_causes, no_identifier, is_job, job_is, post_page, is_submitted}, Run.Run}
 use Rattle.machine_model.specs.{Standing.{CommandStands, IsSized}, State.{State, HostQueue, Record, Job, outstanding_on, is_at, with_record, without_record}}
 use Rattle.machine_model.specs.Step.{Step, Refuses, MayRefuse, Answers, IsController, LeavesByController, LeavesByHost, IsNewIdentifier, allocates, reaped, touched_by_refusal, is_exact, HostPart, KeepsController}
-use Rattle.machine_model.specs.{Work.Work, declared.words.{BlockSizes.TheVariants.{Only512}, HostState.TheVariants.Live, Phase.TheVariants.Held, Refusal.Refusal, Work.TheVariants.Io}}
+use Rattle.machine_model.specs.{Work.Work, declared.words.{Peer.TheVariants.{Modelled}, HostState.TheVariants.Live, Phase.TheVariants.Held, Refusal.Refusal, Work.TheVariants.Io}}
 use Rattle.two_sides.proofs.{Along.{along_proper, each_proper_step, stays_trusted}, Heads.heads_at_opening}
 use Rattle.two_sides.proofs.JobLaws.{stood_has_chains, stood_has_jobs, stood_keeps_chains, stood_keeps_lists, stood_linked, stood_stays, stood_keeps_pages_whole}
 use Rattle.two_sides.proofs.{NeverFull.{Roomy, roomy_on, reply_not_full, stood_at_opening}, PoolBytes.{trusted_before, trusted_or_reset, reset_leaves}}
@@ -28,7 +28,7 @@ use Rattle.two_sides.specs.InOrder.{IsInOrder, IsAnswered, every_event_is_answer
 use Rattle.two_sides.specs.Recovering.{IsChecked, resets_recover, CanRecover, openings_can_recover, every_run_recovers}
 use Rattle.page_memory.{proofs.Bytes.zeros_pool, specs.declared.page.Half.{Half, TheVariants.{Submission, Completion}}}
 use Rattle.queue_pair.specs.{Memory.half_pages, Rings.fresh_host_ring}
-use Rattle.io_commands.specs.{Asked.Request, Requests.{FitsRequest, data_count, fault_of}, Values.IsGood, declared.{block_size.BlockSize.TheVariants.{Bytes512}, request.RequestFault.RequestFault}}
+use Rattle.io_commands.specs.{Asked.Request, Requests.{FitsRequest, data_count, fault_of, is_admin}, Values.IsGood, declared.{block_size.BlockSize.TheVariants.{Bytes512}, request.RequestFault.RequestFault}}
 use Rattle.page_ledger.specs.Owners.{is_among}
 use Rattle.controller_walk.specs.Units.{Act, first_passing, touched, units}
 use Rattle.admin_commands.specs.declared.AdminKind.TheVariants.{Abort, DeleteSq, DeleteCq}
@@ -57,12 +57,12 @@ stood_of s agree = record {
       tokens = agree.tokens;
     };
     zero_live = agree.sound.admin;
+    modelled = agree.modelled;
   };
   few = agree.few_pages;
   commands = agree.commands;
   places = agree.places;
   walks = agree.units_left;
-  only_512 = agree.only_512;
 }
 
 pub roomy_of : (s : State) → SidesAgree s → Roomy s
@@ -72,7 +72,7 @@ pub agree_from : (s : State) → Roomy s → SidesAgree s
 agree_from s roomy = record {
   sound = sound_from_both s (roomy.stood.grounds.stands.0, roomy.stood.grounds.taken);
   rings = roomy.stood.grounds.rings;
-  only_512 = roomy.stood.only_512;
+  modelled = roomy.stood.grounds.modelled;
   some_entries = roomy.stood.grounds.fit.some_entries;
   few_queues = roomy.stood.grounds.fit.few;
   few_pages = roomy.stood.few;
@@ -93,14 +93,14 @@ reset_is_step : (s : State) → Step s events.Reset events.Accepted (a.after_res
 reset_is_step s = let permits : (b : Bool) → MatchBool (b || true) (refusal_of s events.Reset ≡ None × Unit {0}) ⊥ = λ b. grind arith in (tt, permits s.trusted, refl)
 
 -- from what it looks at: the halves of queue 0, the requests and identifiers of records, and the limits
-recovered : (s : State) → IsSound s → s.host.block_sizes ≡ Only512 → 0 < s.entries → length s.host.queues ≤ 65536 → length s.memory ≤ 65536 → length s.controller.queues ≡ length s.host.queues → AreAdminHalves s.entries s.host.queues
+recovered : (s : State) → IsSound s → s.host.peer ≡ Modelled → 0 < s.entries → length s.host.queues ≤ 65536 → length s.memory ≤ 65536 → length s.controller.queues ≡ length s.host.queues → AreAdminHalves s.entries s.host.queues
     → AllByRecursion IsSizedIfIo s.host.records → AllByRecursion (λ r. r.cid < s.entries - 1) s.host.records → SidesAgree (a.after_reset s)
 recovered s sound only some few small same whole sized low =
     let fresh : IsInRing s.entries fresh_host_ring = record { head = some; known_head = some; tail = some } in
     record {
       sound = steps_keep s events.Reset events.Accepted (a.after_reset s) (reset_is_step s) sound;
       rings = all_reset_queues (λ (x : HostQueue). Unit {0}) (λ (x : HostQueue). IsInRing s.entries x.ring) s.host.queues (λ x e p. fresh) fresh (nothing s.host.queues);
-      only_512 = only;
+      modelled = only;
       some_entries = some;
       few_queues = subst (λ (n : ℕ). n ≤ 65536) (sym (reset_length s.host.queues)) few;
       few_pages = subst (λ (n : ℕ). n ≤ 65536) (sym (length-with_pages (zeroed_pages (a.admin_pages s.host.queues)) s.memory)) small;
@@ -124,7 +124,7 @@ recovered s sound only some few small same whole sized low =
 
 agrees_after_reset : (s : State) → SidesAgree s → SidesAgree (a.after_reset s)
 agrees_after_reset s agree =
-    recovered s agree.sound agree.only_512 agree.some_entries agree.few_queues agree.few_pages (same_length s.entries s.host.queues s.controller.queues agree.pairs)
+    recovered s agree.sound agree.modelled agree.some_entries agree.few_queues agree.few_pages (same_length s.entries s.host.queues s.controller.queues agree.pairs)
     (halves_fit s.entries s.host.queues s.controller.queues agree.pairs agree.sound.admin)
     (all_in (CommandStands s.memory s.controller.queues s.controller.jobs) IsSizedIfIo s.host.records (λ r within p. sized_of s.memory s.controller.queues s.controller.jobs r p) agree.commands) agree.heads.ids
 
@@ -134,9 +134,10 @@ reset_recovers s can =
     let lives : (x : HostQueue) → slice_get s.host.queues 0 ≡ Some x → x.state ≡ Live = λ x e.
     live_is x.state (sym (ap (λ (o : Option HostQueue). option_map_or (λ queue. is_live queue.state) o true) e) ∙ can.sound.admin) in
     let at : (x : HostQueue) → slice_get s.host.queues 0 ≡ Some x → HasHalves s.entries x = λ x e. all-at (HasHalves s.entries) s.host.queues 0 x e can.provided.queues in
-    let sized : (r : Record) (request : Request) → FitsRequest request × IsGood request × (request.block_size ≡ Bytes512) → length r.data_pages ≡ data_count request.pieces → IsSized r request = λ r request checked pages.
-    record { fits = checked.0; good = checked.1; size = checked.2; pages = pages } in
-    recovered s can.sound can.only_512 can.some_entries can.few_queues can.few_pages can.paired
+    let sized : (r : Record) (request : Request) → FitsRequest request × IsGood request × (is_admin request.kind ≡ false) × (request.block_size ≡ Bytes512)
+    → length r.data_pages ≡ data_count request.pieces → IsSized r request = λ r request checked pages.
+    record { fits = checked.0; good = checked.1; blocks = checked.2; size = checked.3; pages = pages } in
+    recovered s can.sound can.modelled can.some_entries can.few_queues can.few_pages can.paired
     (record { sub = λ x e. half Submission (has_sq x.state) x.sq_pages (ap has_sq (lives x e)) (at x e).submission; comp = λ x e. half Completion (has_cq x.state) x.cq_pages (ap has_cq (lives x e)) (at x e).completion })
     (all_in_both (λ r. IsProvided s.entries s.segment r) (λ r. IsChecked r.work) IsSizedIfIo s.host.records (λ r within checked p request w. sized r request (subst IsChecked w checked) (has_pages r request w p.pages)) can.checked can.provided.commands)
     (all_in (λ r. IsProvided s.entries s.segment r) (λ r. r.cid < s.entries - 1) s.host.records (λ r within p. p.identifier) can.provided.commands)
@@ -275,10 +276,19 @@ IsRefused s e = (why : Refusal) × (touched : List ℕ) × Step s e (events.Refu
 abbrev pub IsDone : State → Event → Reply → Type 0
 IsDone s e reply = (left : State) × Step s e reply left
 
+-- want of memory is in no row
+no_memory : (s : State) (e : Event) → list_all (λ row. not (is_memory row.1)) (causes s e) ≡ true
+no_memory s (events.Reserve q r) = told (fault_of r.kind r.block_size r.blocks r.pieces)
+  where
+    told : (bad : Option RequestFault) → list_all (λ row. not (is_memory row.1)) (reserve_causes s q r bad) ≡ true
+    told None = refl
+    told (Some fault) = refl
+no_memory s e = grind arith
+
 pub refused_or_none : (s : State) (e : Event) → IsProper e → IsJudged s e → IsRefused s e ⊎ (refusal_of s e ≡ None)
 refused_or_none s e proper j = elim (option_is (refusal_of s e)) [
   | inl none ↦ inr none
-  | inr (why, h) ↦ inl (why, touched_by_refusal s e why, (proper, judged (MayRefuse e why _) _ j (refuses_cause s e why (rows_tell (causes s e) why (grind arith) h) h), refl))
+  | inr (why, h) ↦ inl (why, touched_by_refusal s e why, (proper, judged (MayRefuse e why _) _ j (refuses_cause s e why (rows_tell (causes s e) why (no_memory s e) h) h), refl))
 ]
 
 -- a call that allocates can be refused: for a cause, or for want of memory
@@ -399,13 +409,13 @@ AllChecked rs = AllByRecursion (λ r. IsChecked r.work) rs
 abbrev CheckedPart : HostPart → Type 0
 CheckedPart part = AllChecked part.host.records
 
-checked_event : (s : State) (e : Event) (reply : Reply) → IsProper e → s.host.block_sizes ≡ Only512 → Accepts s e reply → IsController e ≡ false → IsKept CheckedPart s e reply
+checked_event : (s : State) (e : Event) (reply : Reply) → IsProper e → s.host.peer ≡ Modelled → Accepts s e reply → IsController e ≡ false → IsKept CheckedPart s e reply
 checked_event s e reply proper only ok c h =
     let more : (new : Record) → IsChecked new.work → AllChecked (s.host.records ++ new ∷ []) = λ new own. all_append (λ r. IsChecked r.work) s.host.records (new ∷ []) h (own, tt) in
     let without : (q cid : ℕ) → AllChecked (without_record q cid s.host.records) = λ q cid. all-filter (λ r. IsChecked r.work) (λ r. not (is_at q cid r)) s.host.records h in
     host_moves (λ (e : Event) (reply : Reply) (t : State). IsProper e → AllChecked t.host.records) s e reply ok c
     (record {
-      reserves = λ q request d none is pr. more (drafted_record d) (subst (λ (x : Request). IsChecked (Io x)) (sym is.request) (pr, good q request none, reserved_size s q request only none));
+      reserves = λ q request d none is pr. more (drafted_record d) (subst (λ (x : Request). IsChecked (Io x)) (sym is.request) (pr, good q request none, of_blocks s q request only none, reserved_size s q request only none));
       submits = λ d entry r none built its live pr. with d.q d.cid a.submitted (λ r. refl);
       cancels = λ d r its pr. without d.q d.cid;
       rings = λ q none pr. h;
@@ -449,7 +459,7 @@ checked_event s e reply proper only ok c h =
     lose r true p = p
     lose r false p = p
 
-checked_step : (old : State) (e : Event) (reply : Reply) (new : State) → Step old e reply new → old.host.block_sizes ≡ Only512 → AllChecked old.host.records → AllChecked new.host.records
+checked_step : (old : State) (e : Event) (reply : Reply) (new : State) → Step old e reply new → old.host.peer ≡ Modelled → AllChecked old.host.records → AllChecked new.host.records
 checked_step old e reply new step only h =
     subst CheckedPart (sym (part_left old e reply new step.2)) (kept_anyway CheckedPart old e reply (IsController e) refl step.1 (λ ok c. checked_event old e reply step.0 only ok c) h)
 
@@ -498,7 +508,7 @@ openings_recover pages queues n s image opens =
       sound = agree.sound;
       provided = runs_provide pages queues n s image [] [] (opening pages queues n s image) opens refl;
       checked = tt;
-      only_512 = agree.only_512;
+      modelled = agree.modelled;
       some_entries = agree.some_entries;
       few_queues = agree.few_queues;
       few_pages = agree.few_pages;
@@ -511,8 +521,8 @@ recovery_kept old e reply new step agree can =
     record {
       sound = steps_keep old e reply new step can.sound;
       provided = steps_provide old e reply new step can.sound can.provided;
-      checked = checked_step old e reply new step can.only_512 can.checked;
-      only_512 = sizes_stay old e reply new step ∙ can.only_512;
+      checked = checked_step old e reply new step can.modelled can.checked;
+      modelled = peer_stays old e reply new step ∙ can.modelled;
       some_entries = within.0;
       few_queues = subst (λ (k : ℕ). k ≤ 65536) (sym within.1) can.few_queues;
       few_pages = subst (λ (k : ℕ). k ≤ 65536) (sym (sym (length-in_store new.memory) ∙ within.2)) can.few_pages;

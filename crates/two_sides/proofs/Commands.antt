@@ -12,13 +12,13 @@ use Rattle.admin_commands.specs.{Entries.{named_queue, named_command, admin_entr
 use Rattle.admin_commands.specs.declared.SqState.TheVariants.{Stopping}
 use Rattle.entry_codec.specs.declared.{status.{Status.Status, TheConstants.Status.{ABORT_REQUESTED, ABORTED_SQ_DELETION}}, submission.SubEntry.SubEntry}
 use Rattle.entry_codec.specs.declared.hints.TheConstants.Hints.{NONE}
-use Rattle.io_commands.{proofs.Building.carries_entry, specs.{Asked.Request, Drafts.{io_entry, DraftContents, draft_first, draft_parts, draft_entry}}}
-use Rattle.io_commands.specs.{Jobs.{io_fault, bytes_after_check, direction_of_entry}, Requests.{joined_parts, fault_of, moves_data, data_count, FitsRequest}}
+use Rattle.io_commands.{proofs.Building.{carries_entry, draft_of_blocks}, specs.{Asked.Request, Drafts.{io_entry, DraftContents, draft_first, draft_parts, draft_entry}}}
+use Rattle.io_commands.specs.{Jobs.{io_fault, bytes_after_check, direction_of_entry}, Requests.{joined_parts, fault_of, is_admin, moves_data, data_count, FitsRequest}}
 use Rattle.io_commands.specs.Values.{numbers_of}
 use Rattle.machine_model.proofs.{Counting.{held_once, times-append}, HostLeaves.ids_of, Kept.live_has_sq}
 use Rattle.machine_model.proofs.Moves.{IsOf, posts, host_moves, sends, sent_record, creates_cq, creates_sq, grants_cq, grants_sq}
 use Rattle.machine_model.proofs.{Owned.{in_record, in_queue, all_reset}, Steps.{managed_by, Accepts, unrefused, part_controller}}
-use Rattle.machine_model.proofs.TokensKept.{reset_command, sized_of}
+use Rattle.machine_model.proofs.{Sound.of_blocks, TokensKept.{reset_command, sized_of}}
 use Rattle.machine_model.specs.{Agreeing.{CommandsStand as Commands, is_out_of_service_at as past_at, unfetched_count, job_weight}, Claims.OwnsFit}
 use Rattle.machine_model.specs.{Events.{Event, Reply}, Memory.{with_pages, without_pages, zeroed_pages}, Proper.IsProper}
 use Rattle.machine_model.specs.Reached.{only, on_pages, ActIn, CourseIn}
@@ -26,13 +26,13 @@ use Rattle.machine_model.specs.Refusals.{is_submitted, is_job, is_drafted, is_li
 use Rattle.machine_model.specs.Standing.{HasEntry, ListStands, StandsAs, CommandStands, unfetched_at}
 use Rattle.machine_model.specs.State.{PostedCompletion, State, ServedQueue, Record, Job, pages_of, is_at, with_record, record_at, without_record}
 use Rattle.machine_model.specs.{Step.{times, HostPart, IsController}, Weights.{one, total, sent}, Work.Work, declared.words.Phase.TheVariants.{Drafted, Held}}
-use Rattle.machine_model.specs.declared.words.{BlockSizes.TheVariants.{Only512}, Work.TheVariants.{Io, Management}}
+use Rattle.machine_model.specs.declared.words.{Peer.TheVariants.{Modelled}, Work.TheVariants.{Io, Management}}
 use Rattle.queue_pair.specs.Members.{change}
 use Rattle.two_sides.proofs.ControllerMoves.{unit_done, finished, cleared, fetch_by, walk_by, complete_by, unit_memory}
-use Rattle.two_sides.proofs.PlacesKept.{InHand, in_hand, first_is, on_job_q, on_job_entry, stopped_entry, PlacesIn}
+use Rattle.two_sides.proofs.PlacesKept.{InHand, in_hand, entry_cid, first_is, on_job_q, on_job_entry, stopped_entry, PlacesIn}
 use Rattle.two_sides.proofs.Provided.{In, all_in_both, all_map, all_append, all_drop_one, in_found, in_at, all_in, all_with, is_found, sent_found}
 use Rattle.two_sides.proofs.Served.{counts_sent, chain_of, data_of, page_below, Stood, JobList, job_list, course_in, requests_same, reserved_size, first_read, brought, draft_spells}
-use Rattle.two_sides.proofs.{Standing.all_list, Tied.stopped_q, TiedAll.{Grounds, pair_at, ring_in}}
+use Rattle.two_sides.proofs.{Standing.all_list, Tied.stopped_q, TiedAll.{Grounds, admins_of, pair_at, ring_in}}
 use Rattle.two_sides.proofs.Untouched.{sent_page, owned_once, bytes_elsewhere, posts_elsewhere, untouched, PostsElsewhere, live_queue, is_walk}
 use Rattle.controller_walk.specs.Units.{Act, Stays, Reads, Moves, Course, Closes, Does, units}
 use Rattle.page_memory.proofs.Lists.{found_is, all-back, all-found, all-filter}
@@ -158,11 +158,11 @@ list_still m m' qs qs' js js' r request same keeps l = record {
 pub commands_still : (X : Record → Type 0) (m m' : Pages) (qs qs' : List ServedQueue) (js js' : List Job) (rs : List Record)
     → ((r : Record) → In r rs → is_submitted r.phase ≡ true → (p : ℕ) → is_among r.chain_pages p ≡ true → page_at m' p ≡ page_at m p)
     → ((r : Record) → X r → (r.q == 0) ≡ false → is_submitted r.phase ≡ true → (entry : SubEntry) → HasEntry qs js r.q r.cid entry → HasEntry qs' js' r.q r.cid entry)
-    → AllByRecursion (λ r. OwnsFit r.q r.work (pages_of r) × X r) rs → Commands m qs js rs → Commands m' qs' js' rs
+    → AllByRecursion (λ r. OwnsFit Modelled r.q r.work (pages_of r) × X r) rs → Commands m qs js rs → Commands m' qs' js' rs
 commands_still X m m' qs qs' js js' rs same keeps fit h =
-    all_in_both (CommandStands m qs js) (λ r. OwnsFit r.q r.work (pages_of r) × X r) (CommandStands m' qs' js') rs (λ r within f c. of r within f.1 r.work f.0 c) fit h
+    all_in_both (CommandStands m qs js) (λ r. OwnsFit Modelled r.q r.work (pages_of r) × X r) (CommandStands m' qs' js') rs (λ r within f c. of r within f.1 r.work f.0 c) fit h
   where
-    of : (r : Record) → In r rs → X r → (w : Work) → OwnsFit r.q w (pages_of r) → StandsAs m qs js r w → StandsAs m' qs' js' r w
+    of : (r : Record) → In r rs → X r → (w : Work) → OwnsFit Modelled r.q w (pages_of r) → StandsAs m qs js r w → StandsAs m' qs' js' r w
     of r within x (Io request) f c = (c.0, λ sub. list_still m m' qs qs' js js' r request (same r within sub) (keeps r x f sub) (c.1 sub))
     of r within x (Management adm) f c = tt
 
@@ -172,7 +172,7 @@ pub quiet_stands : (m : Pages) (qs : List ServedQueue) (js : List Job) (f : Reco
 quiet_stands m qs js f work pages r far c = subst (StandsAs m qs js (f r)) (sym (work r)) (of r.work c)
   where
     of : (w : Work) → StandsAs m qs js r w → StandsAs m qs js (f r) w
-    of (Io request) c = (record { fits = c.0.fits; good = c.0.good; size = c.0.size; pages = ap length (pages r) ∙ c.0.pages }, λ sub. absurd (true≢false (sym sub ∙ far)))
+    of (Io request) c = (record { fits = c.0.fits; good = c.0.good; blocks = c.0.blocks; size = c.0.size; pages = ap length (pages r) ∙ c.0.pages }, λ sub. absurd (true≢false (sym sub ∙ far)))
     of (Management adm) c = tt
 
 -- Every event keeps the lists of submitted commands.
@@ -181,7 +181,7 @@ abbrev pub CommandsIn : State → Type 0
 CommandsIn s = Commands s.memory s.controller.queues s.controller.jobs s.host.records
 
 abbrev Fine : Record → Type 0
-Fine r = OwnsFit r.q r.work (pages_of r) × Unit {0}
+Fine r = OwnsFit Modelled r.q r.work (pages_of r) × Unit {0}
 
 -- pages of submitted commands stay
 abbrev pub SamePages : State → Pages → Type 0
@@ -192,15 +192,15 @@ pub still : (s : State) (m : Pages) (qs : List ServedQueue) (js : List Job) → 
 still s m qs js g same keeps h =
     commands_still (λ r. Unit {0}) s.memory m s.controller.queues qs s.controller.jobs js s.host.records
     (λ r within sub p c. same p (counts_sent s r within sub p (chain_of r p c)))
-    (λ r x other sub entry e. keeps r.q r.cid entry e) (all_in (λ r. OwnsFit r.q r.work (pages_of r)) Fine s.host.records (λ r within f. (f, tt)) g.stands.0.admins) h
+    (λ r x other sub entry e. keeps r.q r.cid entry e) (all_in (λ r. OwnsFit Modelled r.q r.work (pages_of r)) Fine s.host.records (λ r within f. (f, tt)) (admins_of s g)) h
 
 pub keeps_nothing : (qs : List ServedQueue) (js : List Job) → Keeps qs js qs js
 keeps_nothing qs js q cid entry h = h
 
 -- Reserving
 
-pub commands_reserve : (s : State) (q : ℕ) (r : Request) (d : DraftContents) → IsProper (events.Reserve q r) → Accepts s (events.Reserve q r) (events.Reserved d) → s.host.block_sizes ≡ Only512 → Grounds s → CommandsIn s → CommandsIn (a.after_reserve d s)
-commands_reserve s q r d proper ok only g h =
+pub commands_reserve : (s : State) (q : ℕ) (r : Request) (d : DraftContents) → IsProper (events.Reserve q r) → Accepts s (events.Reserve q r) (events.Reserved d) → Grounds s → CommandsIn s → CommandsIn (a.after_reserve d s)
+commands_reserve s q r d proper ok g h =
     let good : fault_of r.kind r.block_size r.blocks r.pieces ≡ None = let e = (unrefused s (events.Reserve q r) ok.0).1.1.0 in grind arith in
     let new : Record = record { q = d.q; cid = d.cid; phase = Drafted; work = Io d.request; data_pages = numbers_of d.data_pages; chain_pages = numbers_of d.chain_pages; status = None; hints = NONE } in
     let m = without_pages (numbers_of d.data_pages ++ numbers_of d.chain_pages) s.memory in
@@ -210,7 +210,8 @@ commands_reserve s q r d proper ok only g h =
         record {
           fits = subst FitsRequest (sym ok.1.request) proper;
           good = subst (λ (x : Request). fault_of x.kind x.block_size x.blocks x.pieces ≡ None) (sym ok.1.request) good;
-          size = ap (λ (x : Request). x.block_size) ok.1.request ∙ reserved_size s q r only ok.0;
+          blocks = ap (λ (x : Request). is_admin x.kind) ok.1.request ∙ of_blocks s q r g.modelled ok.0;
+          size = ap (λ (x : Request). x.block_size) ok.1.request ∙ reserved_size s q r g.modelled ok.0;
           pages = length-map d.data_pages (λ page. page.0) ∙ ok.1.data_pages ∙ ap (λ (x : Request). data_count x.pieces) (sym ok.1.request);
         },
         λ sub. absurd (true≢false (sym sub)),
@@ -265,14 +266,15 @@ pub commands_submit : (d : DraftContents) (entry : SubEntry) (r : Record) (s : S
     → Grounds s → length s.memory ≤ 65536 → PlacesIn s → SamePages s (posts d.q entry (a.on_records (with_record d.q d.cid a.submitted) (a.on_memory (with_pages (d.data_pages ++ d.chain_pages)) s))).memory → CommandsIn s
     → CommandsIn (posts d.q entry (a.on_records (with_record d.q d.cid a.submitted) (a.on_memory (with_pages (d.data_pages ++ d.chain_pages)) s)))
 commands_submit d entry r s proper e its live g few places same h =
-    let cid : entry.cid ≡ d.cid = ap (λ (x : SubEntry). x.cid) (carries_entry d entry proper.draft e) in
+    let cid : entry.cid ≡ d.cid = ap (λ (x : SubEntry). x.cid) (carries_entry d entry proper.draft e) ∙ entry_cid d in
     let qs = change d.q (λ at. record at { unfetched = at.unfetched ++ entry ∷ [] }) s.controller.queues in
     let m = (after_entry entry).memory in
     let kept : Commands m qs s.controller.jobs s.host.records =
     commands_still (λ x. is_at d.q d.cid x ≡ true → x ≡ r) s.memory m s.controller.queues qs s.controller.jobs s.controller.jobs s.host.records
     (λ x w sub p c. same p (counts_sent s x w sub p (chain_of x p c)))
     (λ x only_one other sub wanted has. others entry cid x only_one sub wanted has)
-    (all_in_both (λ x. is_at d.q d.cid x ≡ true → x ≡ r) (λ r. OwnsFit r.q r.work (pages_of r)) (λ x. OwnsFit x.q x.work (pages_of x) × (is_at d.q d.cid x ≡ true → x ≡ r)) s.host.records (λ x w f o. (f, o)) g.stands.0.admins
+    (all_in_both (λ x. is_at d.q d.cid x ≡ true → x ≡ r) (λ r. OwnsFit Modelled r.q r.work (pages_of r)) (λ x. OwnsFit Modelled x.q x.work (pages_of x) × (is_at d.q d.cid x ≡ true → x ≡ r)) s.host.records
+    (λ x w f o. (f, o)) (admins_of s g)
     (is_found d.q d.cid s.host.records r its.found (g.stands.0.once d.q d.cid))) h in
     all_with (CommandStands m qs s.controller.jobs) (CommandStands m qs s.controller.jobs) d.q d.cid a.submitted s.host.records r its.found (g.stands.0.once d.q d.cid) (λ x far c. c)
     (λ c. own entry e r.work refl its.asks c) kept
@@ -317,9 +319,9 @@ commands_submit d entry r s proper e its live g few places same h =
     stand_there : (entry : SubEntry) → AllByRecursion (λ (page : ℕ × List ℕ). page_at (after_entry entry).memory page.0 ≡ Some page.1) d.chain_pages
     stand_there entry = all-back (λ (page : ℕ × List ℕ). page_at (after_entry entry).memory page.0 ≡ Some page.1) d.data_pages d.chain_pages (submitted_pages s d entry r its live g)
 
-    new_list : (entry : SubEntry) → d.entry ≡ Some entry → (request : Request) → request ≡ d.request
+    new_list : (entry : SubEntry) → d.entry ≡ Some entry → (request : Request) → request ≡ d.request → is_admin request.kind ≡ false
         → ListStands (after_entry entry).memory (change d.q (λ at. record at { unfetched = at.unfetched ++ entry ∷ [] }) s.controller.queues) s.controller.jobs (a.submitted r) request
-    new_list entry e request same =
+    new_list entry e request same blocks =
         let is : entry ≡ draft_entry d = carries_entry d entry proper.draft e in
         let ids = ids_of s d.q d.cid r its.found in
         let low_data : (p : ℕ) → is_among (numbers_of d.data_pages) p ≡ true → p < 65536 = λ p x. low p (data_of r p (ap (λ (xs : List ℕ). is_among xs p) (sym its.data_list) ∙ x)) in
@@ -334,13 +336,17 @@ commands_submit d entry r s proper e its live g few places same h =
               (subst (λ (x : Request). Spells (only (on_pages (numbers_of d.chain_pages)) (byte_at (after_entry entry).memory)) (draft_first d) (joined_parts x.pieces (numbers_of d.data_pages))) (sym same) (spelled moves)));
           entry = subst (λ (x : Request). HasEntry (change d.q (λ at. record at { unfetched = at.unfetched ++ entry ∷ [] }) s.controller.queues) s.controller.jobs r.q r.cid (io_entry r.cid x (spelling (draft_first d)))) (sym same)
               (subst (λ (c : ℕ). HasEntry (change d.q (λ at. record at { unfetched = at.unfetched ++ entry ∷ [] }) s.controller.queues) s.controller.jobs r.q c (io_entry c d.request (spelling (draft_first d)))) (sym ids.1)
-              (subst (λ (q : ℕ). HasEntry (change d.q (λ at. record at { unfetched = at.unfetched ++ entry ∷ [] }) s.controller.queues) s.controller.jobs q d.cid (draft_entry d)) (sym ids.0) (new_entry entry is)));
+              (subst (λ (q : ℕ). HasEntry (change d.q (λ at. record at { unfetched = at.unfetched ++ entry ∷ [] }) s.controller.queues) s.controller.jobs q d.cid (io_entry d.cid d.request (spelling (draft_first d))))
+              (sym ids.0)
+              (subst (HasEntry (change d.q (λ at. record at { unfetched = at.unfetched ++ entry ∷ [] }) s.controller.queues) s.controller.jobs d.q d.cid)
+              (draft_of_blocks d (ap (λ (x : Request). is_admin x.kind) (sym same) ∙ blocks)) (new_entry entry is))));
         }
 
     own : (entry : SubEntry) → d.entry ≡ Some entry → (w : Work) → r.work ≡ w → asks_for d.request w ≡ true
         → StandsAs (after_entry entry).memory (change d.q (λ at. record at { unfetched = at.unfetched ++ entry ∷ [] }) s.controller.queues) s.controller.jobs r w
         → StandsAs (after_entry entry).memory (change d.q (λ at. record at { unfetched = at.unfetched ++ entry ∷ [] }) s.controller.queues) s.controller.jobs (a.submitted r) w
-    own entry e (Io request) is asks c = (record { fits = c.0.fits; good = c.0.good; size = c.0.size; pages = c.0.pages }, λ sub. new_list entry e request (sym (requests_same d.request request asks)))
+    own entry e (Io request) is asks c =
+        (record { fits = c.0.fits; good = c.0.good; blocks = c.0.blocks; size = c.0.size; pages = c.0.pages }, λ sub. new_list entry e request (sym (requests_same d.request request asks)) c.0.blocks)
     own entry e (Management adm) is asks c = tt
 
     -- another command's entries are where they were
@@ -389,7 +395,7 @@ commands_sent adm id s m g same h =
       unfetched = all_list (λ e. e.cid ≡ r.cid → e ≡ entry) (λ at. at.unfetched) 0 (λ at. record at { unfetched = at.unfetched ++ admin_entry adm id ∷ [] }) s.controller.queues r.q
           (λ at z all. absurd (true≢false (sym (eq-eqb r.q 0 (sym z)) ∙ other))) has.unfetched;
       fetched = has.fetched;
-    }) (all_in (λ r. OwnsFit r.q r.work (pages_of r)) (λ r. OwnsFit r.q r.work (pages_of r) × Unit {0}) s.host.records (λ r within f. (f, tt)) g.stands.0.admins) h in
+    }) (all_in (λ r. OwnsFit Modelled r.q r.work (pages_of r)) Fine s.host.records (λ r within f. (f, tt)) (admins_of s g)) h in
     all_append (CommandStands m qs s.controller.jobs) s.host.records (sent_record adm id ∷ []) kept (tt, tt)
 
 -- Reaping
@@ -408,7 +414,7 @@ commands_host s e reply pr ok c w h =
     all-filter (CommandStands s.memory (a.consumed q s).controller.queues s.controller.jobs) (λ r. not (is_at q cid r)) s.host.records (commands_consumed q s h.grounds h.commands) in
     host_moves (λ (e : Event) (reply : Reply) (t : State). IsProper e → SamePages s t.memory → CommandsIn t) s e reply ok c
     (record {
-      reserves = λ q request d none is pr same. commands_reserve s q request d pr (none, is) h.only_512 h.grounds h.commands;
+      reserves = λ q request d none is pr same. commands_reserve s q request d pr (none, is) h.grounds h.commands;
       submits = λ d entry r none built its live pr same. commands_submit d entry r s pr built its live h.grounds h.few h.places same h.commands;
       cancels = λ d r its pr same. commands_ended d.q d.cid (d.data_pages ++ d.chain_pages) s h.grounds same h.commands;
       rings = λ q none pr same.
@@ -458,7 +464,7 @@ commands_controller s e reply c same keeps g h =
     let t = a.after s e reply in
     subst (λ (part : HostPart). Commands t.memory t.controller.queues t.controller.jobs part.host.records) (sym (part_controller s e reply c))
     (commands_still (λ r. Unit {0}) s.memory t.memory s.controller.queues t.controller.queues s.controller.jobs t.controller.jobs s.host.records same (λ r x other sub entry has. keeps r.q r.cid entry has)
-    (all_in (λ r. OwnsFit r.q r.work (pages_of r)) (λ r. OwnsFit r.q r.work (pages_of r) × Unit {0}) s.host.records (λ r within f. (f, tt)) g.stands.0.admins) h)
+    (all_in (λ r. OwnsFit Modelled r.q r.work (pages_of r)) Fine s.host.records (λ r within f. (f, tt)) (admins_of s g)) h)
 
 -- Walking
 

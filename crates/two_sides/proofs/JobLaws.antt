@@ -10,8 +10,8 @@ use Rattle.page_memory.specs.declared.page.Half.TheVariants.{Submission, Complet
 use Rattle.sgl_descriptor.specs.{Spelling.{descriptor_of, spelling}, declared.{Direction.{Direction, TheVariants.{Destination, Source}}, Part.Part}}
 use Rattle.controller_walk.{proofs.Along.list_moves_along, specs.Along.{MovesAlong, taken, descriptor_at}}
 use Rattle.controller_walk.specs.{Units.{Stays, Reads, Moves, Course, Closes, Does, units, Act, touched}, declared.walk.WalkState.WalkState}
-use Rattle.io_commands.{proofs.{Building.carries_entry, Pointers.length-pointer_of}, specs.{Drafts.{io_entry, pointer_of, DraftContents, draft_first}, Jobs.{direction_of_entry, need_of_entry}}}
-use Rattle.io_commands.specs.{Requests.joined_parts, Values.numbers_of}
+use Rattle.io_commands.{proofs.{Building.carries_entry, Pointers.length-pointer_of}, specs.{Asked.Request, Drafts.{io_entry, pointer_of, DraftContents, draft_first, entry_of}, Jobs.{direction_of_entry, need_of_entry}}}
+use Rattle.io_commands.specs.{Requests.joined_parts, Values.numbers_of, declared.request.Kind.{Kind, TheVariants.{Read, Write, Compare, WriteZeroes, Verify, Flush, Admin}}}
 use Rattle.block_image.specs.Blocks.{with_blocks}
 use Rattle.machine_model.proofs.Moves.{host_moves, posted_bytes, sends, sent_record, half_from, creates_cq, creates_sq, grants_cq, grants_sq}
 use Rattle.machine_model.{proofs.Steps.{Accepts, part_left, permitted, exact, managed_by, surely}, specs.After.course_of}
@@ -341,10 +341,22 @@ pub length-completion_bytes : (entry : ComEntry) → length (completion_bytes en
 unfolding completion_bytes
 length-completion_bytes entry = refl
 
+-- the data pointer of a draft's entry is sixteen bytes
+length-entry_of : (kind : Kind) (cid : ℕ) (r : Request) (sgl1 : List ℕ) (pages : List ℕ) → length sgl1 ≡ 16 → length (entry_of kind cid r sgl1 pages).sgl1 ≡ 16
+length-entry_of Read cid r sgl1 pages count = length-pointer_of r.kind sgl1 count
+length-entry_of Write cid r sgl1 pages count = length-pointer_of r.kind sgl1 count
+length-entry_of Compare cid r sgl1 pages count = length-pointer_of r.kind sgl1 count
+length-entry_of WriteZeroes cid r sgl1 pages count = length-pointer_of r.kind sgl1 count
+length-entry_of Verify cid r sgl1 pages count = length-pointer_of r.kind sgl1 count
+length-entry_of Flush cid r sgl1 pages count = length-pointer_of r.kind sgl1 count
+length-entry_of (Admin command) cid r sgl1 [] count = refl
+length-entry_of (Admin command) cid r sgl1 (page ∷ pages) count = refl
+
 -- the entry of a proper draft, and that of an admin command
 draft_length : (d : DraftContents) (entry : SubEntry) → IsProperDraft d → d.entry ≡ Some entry → length (submission_bytes entry) ≡ 64
 draft_length d entry proper e =
-    length-submission_bytes entry (ap (λ (x : SubEntry). length x.sgl1) (carries_entry d entry proper.draft e) ∙ length-pointer_of d.request.kind (spelling (draft_first d)) (length-spelling (draft_first d)))
+    length-submission_bytes entry (ap (λ (x : SubEntry). length x.sgl1) (carries_entry d entry proper.draft e)
+    ∙ length-entry_of d.request.kind d.cid d.request (spelling (draft_first d)) (numbers_of d.data_pages) (length-spelling (draft_first d)))
 
 -- What the host does
 

@@ -14,7 +14,7 @@ use Rattle.entry_codec.specs.declared.submission.SubEntry.{SubEntry}
 use Rattle.io_commands.specs.{Jobs.{verdict_of, direction_of_entry, need_of_entry, io_fault, bytes_after_check}, Requests.fault_of, Values.numbers_of}
 use Rattle.io_commands.specs.declared.request.RequestFault.{RequestFault}
 use Rattle.page_memory.specs.Pages.{Pages, page_at, zero_page}
-use Rattle.machine_model.proofs.{Counting.{times-append, held_once}, Headline.{in_limits, limits_of}, HostLeaves.{ids_of, host_leaves, sizes_after}}
+use Rattle.machine_model.proofs.{Counting.{times-append, held_once}, Headline.{in_limits, limits_of}, HostLeaves.{ids_of, host_leaves}}
 use Rattle.machine_model.proofs.{Kept.live_serves, Moves.queue_known, Owned.{in_is, in_queue, taken, taken_le, none_here}}
 use Rattle.machine_model.proofs.Steps.{part-walk, in_store, length-in_store, Accepts, part_controller, managed_by, permitted, found, pages_match}
 use Rattle.machine_model.specs.{After.course_of, Agreeing.{job_weight, is_out_of_service_at as past_at, completions_at, sent_count}}
@@ -212,7 +212,6 @@ stood_on s e reply pr ok t h = record {
   commands = commands_event s e reply pr ok t h;
   places = places_event s e reply pr ok t h.grounds h.places;
   walks = walks_event s e reply ok h;
-  only_512 = sizes_after s e reply ok ∙ h.only_512;
 }
 
 few_opened : (pages queues n s : ℕ) → Opens pages queues n s → pages ≤ 65536
@@ -233,7 +232,6 @@ stood_at_opening pages queues n s image opens = record {
   commands = tt;
   places = λ q w. omega (arith, counted (past_at (opening pages queues n s image).host.queues q) q w, nothing_completed w (queues + 1) q);
   walks = tt;
-  only_512 = refl;
 }
   where
     counted : (b : Bool) (q : ℕ) (w : ℕ → ℕ) → (if b then 0 else total (λ (e : SubEntry). w e.cid) (unfetched_at (replicate (queues + 1) opened) q)) ≡ 0

@@ -20,7 +20,9 @@ use Rattle.admin_commands.specs.{Entries.{named_queue, named_command, admin_entr
 use Rattle.admin_commands.specs.declared.{AdminKind.TheVariants.{Abort, DeleteSq, DeleteCq, CreateSq}, SqState.TheVariants.{Absent, Stopping}}
 use Rattle.entry_codec.specs.{Status.is_success, declared.{completion.ComEntry.ComEntry, status.Status.Status}}
 use Rattle.entry_codec.specs.declared.{status.TheConstants.Status.{COMMAND_ID_CONFLICT, ABORT_REQUESTED, ABORTED_SQ_DELETION}, submission.SubEntry.SubEntry}
-use Rattle.io_commands.{proofs.Building.carries_entry, specs.Jobs.{io_fault, bytes_after_check}}
+use Rattle.io_commands.{proofs.Building.carries_entry, specs.{Drafts.{DraftContents, draft_entry, draft_first, entry_of as draft_entry_of}, Jobs.{io_fault, bytes_after_check}, Values.numbers_of}}
+use Rattle.io_commands.specs.declared.request.Kind.{Kind, TheVariants.{Read, Write, Compare, WriteZeroes, Verify, Flush, Admin}}
+use Rattle.sgl_descriptor.specs.Spelling.{spelling}
 use Rattle.queue_pair.specs.{Members.change, Rings.{HostRing, next_tail, next_head, knowing}}
 use Rattle.two_sides.proofs.ControllerMoves.{posts_completion, posted_completion, unit_done, finished, cleared, fetch_by, walk_by, complete_by}
 use Rattle.two_sides.proofs.{Standing.{list_same, more_at, less_at, past_same, past_other, past_here}, Tied.{stopped_q, deleted_is_gone}}
@@ -437,6 +439,19 @@ by_controller s e reply c less h =
     subst (λ (part : HostPart). Places part.host.queues part.host.records (a.after s e reply).controller.queues (a.after s e reply).controller.jobs) (sym (part_controller s e reply c))
     (places_less s.host.queues s.host.records s.controller.queues (a.after s e reply).controller.queues s.controller.jobs (a.after s e reply).controller.jobs less h)
 
+-- a draft's entry has its identifier
+pub entry_cid : (d : DraftContents) → (draft_entry d).cid ≡ d.cid
+entry_cid d = go d.request.kind
+  where
+    go : (kind : Kind) → (draft_entry_of kind d.cid d.request (spelling (draft_first d)) (numbers_of d.data_pages)).cid ≡ d.cid
+    go Read = refl
+    go Write = refl
+    go Compare = refl
+    go WriteZeroes = refl
+    go Verify = refl
+    go Flush = refl
+    go (Admin command) = refl
+
 places_host : (s : State) (e : Event) (reply : Reply) → IsProper e → Accepts s e reply → IsController e ≡ false → s.trusted ≡ true → Grounds s → PlacesIn s → PlacesIn (a.after s e reply)
 places_host s e reply pr ok c t g h =
     let same_places : (rs : List Record) → ((k : ℕ) (w : ℕ → ℕ) → total (sent k w) s.host.records ≤ total (sent k w) rs) → Places s.host.queues rs s.controller.queues s.controller.jobs = λ rs more.
@@ -456,7 +471,7 @@ places_host s e reply pr ok c t g h =
             total_with (sent k w) d.q d.cid a.submitted s.host.records r its.found (g.stands.0.once d.q d.cid),
             sent_not k w r its.quiet,
             sent_is d.q d.cid k w (a.submitted r) ids.0 ids.1 refl,
-            ap (λ (c : ℕ). if d.q == k then w c else 0) (ap (λ (x : SubEntry). x.cid) (carries_entry d entry pr.draft built)),
+            ap (λ (c : ℕ). if d.q == k then w c else 0) (ap (λ (x : SubEntry). x.cid) (carries_entry d entry pr.draft built) ∙ entry_cid d),
           )) h;
       cancels = λ d r its pr. ended d.q d.cid r its.found its.quiet;
       rings = λ q none pr.

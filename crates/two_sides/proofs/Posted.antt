@@ -6,7 +6,8 @@ use Rattle.admin_commands.specs.declared.{AdminKind.AdminKind, SqState.SqState}
 use Rattle.entry_codec.{proofs.SubmissionLemmas.round_trip, specs.Bytes.IsBytes}
 use Rattle.entry_codec.specs.{Submission.{FitsSubmission, IsSubEntry, command_words, submission_bytes, submission_of}, declared.completion.ComEntry.ComEntry}
 use Rattle.entry_codec.specs.declared.submission.SubEntry.{SubEntry}
-use Rattle.io_commands.{proofs.{Building.{carries_entry, few_blocks, flags_fit}, Pointers.psdt_fits}, specs.{Drafts.{DraftContents, draft_first, pointer_of}, Requests.moves_data, declared.request.Kind.Kind}}
+use Rattle.io_commands.proofs.{Building.{carries_entry, draft_of_blocks, few_blocks, flags_fit}, Pointers.psdt_fits}
+use Rattle.io_commands.specs.{Drafts.{DraftContents, draft_first, pointer_of}, Requests.{is_admin, moves_data, opcode_of}, declared.request.Kind.{Kind, TheVariants.{Admin}}}
 use Rattle.machine_model.specs.{Memory.memory_of, Proper.IsProperDraft, Refusals.{slot_page, slot_offset}}
 use Rattle.machine_model.specs.State.{HostQueue, ServedQueue}
 use Rattle.sgl_descriptor.specs.{Spelling.{spelling, descriptor_bytes}, declared.Descriptor.Descriptor}
@@ -78,12 +79,16 @@ pointer_in_bytes kind sgl1 bytes = go (moves_data kind)
 
 -- The entries
 
-pub draft_typed : (d : DraftContents) (entry : SubEntry) → IsProperDraft d → d.cid < 2 ^ 16 → d.entry ≡ Some entry → IsTyped entry
-draft_typed d entry proper cid built =
+opcode_fits : (kind : Kind) → is_admin kind ≡ false → opcode_of kind < 2 ^ 8
+opcode_fits (Admin command) far = absurd (true≢false far)
+opcode_fits kind far = grind arith
+
+pub draft_typed : (d : DraftContents) (entry : SubEntry) → IsProperDraft d → is_admin d.request.kind ≡ false → d.cid < 2 ^ 16 → d.entry ≡ Some entry → IsTyped entry
+draft_typed d entry proper blocks cid built =
     let request = proper.request in
-    subst IsTyped (sym (carries_entry d entry proper.draft built)) (record {
+    subst IsTyped (sym (carries_entry d entry proper.draft built ∙ draft_of_blocks d blocks)) (record {
       typed = record {
-        opcode = grind arith;
+        opcode = opcode_fits d.request.kind blocks;
         cid = cid;
         nsid = request.nsid;
         mptr = omega arith;

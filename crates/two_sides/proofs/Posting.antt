@@ -6,24 +6,25 @@ use Rattle.std.proofs.Common.{◌≡◌, ℕ, zero, suc, ◌+◌, ◌*◌, ◌-�
 use Rattle.std.proofs.lemmas.{Bool.{true≢false, not-false, and_parts, or_parts, OnTrue_at}, List.Folds.find_at, Option.slice_get_within}
 use Rattle.std.specs.{List.position_or_len, Option.option_map_or}
 use Rattle.machine_model.proofs.{Kept.service_is_reaped as served_reaped}
-use Rattle.machine_model.proofs.{Moves.{IsOf, draft_found, draft_lives, queue_found, sent_record, io_queue, run_found}, Steps.{found, unrefused}}
+use Rattle.machine_model.proofs.{Moves.{IsOf, draft_found, draft_lives, queue_found, sent_record, io_queue, run_found}, Steps.{found, found_all, unrefused}}
 use Rattle.machine_model.specs.{After.after, Agreeing.is_known_deleted, Always.IsProvided, Events.{Event, Reply}}
 use Rattle.machine_model.specs.{Memory.{memory_of, with_pages}, Placement.first_of_run, Proper.IsProperDraft}
-use Rattle.machine_model.specs.Refusals.{has_cq, host_queue, in_service, in_state, is_drafted, is_live, is_submitted, queue_full, refusal_of, is_gone, is_half_made, is_making}
+use Rattle.machine_model.specs.Refusals.{asks_for, has_cq, host_queue, in_service, in_state, is_drafted, is_live, is_submitted, queue_full, refusal_of, is_gone, is_half_made, is_making}
 use Rattle.machine_model.specs.{State.{Controller, HostQueue, Record, State, is_at, pages_of, record_at, with_record}, Step.{HostPart, LeavesByHost, Permits}}
-use Rattle.machine_model.specs.declared.words.HostState.{HostState, TheVariants.{Deleting, MakingSq}}
+use Rattle.machine_model.specs.declared.words.{HostState.{HostState, TheVariants.{Deleting, MakingSq}}, Work.TheVariants.{Io}}
 use Rattle.admin_commands.specs.{Entries.{admin_entry, named_by, qualified_by}, Verdicts.is_absent, declared.AdminKind.AdminKind}
 use Rattle.admin_commands.specs.declared.AdminKind.TheVariants.{Abort, DeleteSq, DeleteCq, CreateCq, CreateSq}
 use Rattle.controller_core.specs.{Contents.Contents, declared.queue.ControllerQueue.ControllerQueue}
 use Rattle.entry_codec.specs.declared.submission.SubEntry.{SubEntry}
 use Rattle.host_core.{proofs.{Ending.joined-pages, Lists.all-from, PageOwners.{pool-with, among-from}}, specs.Alone.{HostView, HostStep, alone, nothing}}
-use Rattle.io_commands.specs.Drafts.{DraftContents}
+use Rattle.io_commands.specs.{Asked.Request, Drafts.DraftContents, Requests.is_admin}
 use Rattle.two_sides.proofs.Assembling.{Ties, answer_as_machine}
 use Rattle.two_sides.proofs.Frames.{Spares, SparesSubmitted, apart_from_commands, apart_from_queues, host_lists, host_stands, state_stands, free_apart_from_queues, controller_at, reaped_ring, first_of_half, known, there_ring}
 use Rattle.two_sides.proofs.Granting.{granted_pool, granted_spares, granted_submitted, granted_whole, free, granted_zero, zeros_granted}
 use Rattle.two_sides.proofs.Places.{known_live, known_absent, known_gone}
 use Rattle.two_sides.proofs.Posted.{CanPost, post_queues, post_stands, post_walks, slot_written, tail_moved, with_entry, elsewhere, IsTyped, admin_typed, draft_typed}
-use Rattle.two_sides.specs.Hearing.{heard}
+use Rattle.two_sides.proofs.Served.{requests_same}
+use Rattle.two_sides.specs.{Hearing.heard, Recovering.IsChecked}
 use Rattle.two_sides.specs.Sides.{Sides, state_of, controller_part, served_queue_of, served_queues_of, job_of}
 use Rattle.two_sides.specs.Ties.{AllQueuesStand, IsWorld, QueueStands, WalksStand, RingsStand, first_completion_page}
 use Rattle.page_ledger.specs.Owners.{is_among, pages_from}
@@ -162,6 +163,13 @@ submitted_posts s d entry h built at =
       controller = ap (λ (x : State). x.controller) (leaves (state_of s) at);
     }
 
+-- a draft of an outstanding command is no admin command's
+draft_blocks : (s : Sides) (d : DraftContents) (r : Record) → IsWorld s → IsOf (state_of s) is_drafted d.request d.q d.cid d.data_pages d.chain_pages r → is_admin d.request.kind ≡ false
+draft_blocks s d r world is =
+    let work = is.asked.1 in
+    let checked : IsChecked (Io is.asked.0) = subst IsChecked work (found_all (λ r. IsChecked r.work) (is_at d.q d.cid) s.host.host.records r is.found world.recovers.checked) in
+    ap (λ (x : Request). is_admin x.kind) (requests_same d.request is.asked.0 (ap (asks_for d.request) (sym work) ∙ is.asks)) ∙ checked.2
+
 pub submit_ties : (s : Sides) (d : DraftContents) (host : HostView) (pages : Pages) → IsWorld s → s.trusted ≡ true → HostStep s.host s.pages (events.Submit d) events.Accepted host pages
     → Ties s (events.Submit d) events.Accepted host pages
 submit_ties s d host pages world t step =
@@ -175,7 +183,7 @@ submit_ties s d host pages world t step =
           let small : d.cid < 2 ^ 16 = omega (arith, small_identifier s world d.q d.cid r.0 r.1.found, few_entries s world d.q h live.1) in
           let room : is_full s.host.entries h.ring.known_head h.ring.tail ≡ false =
           sym (ap (λ (o : Option HostQueue). option_map_or (λ x. is_full s.host.entries x.ring.known_head x.ring.tail) o true) live.1) ∙ (unrefused (state_of s) (events.Submit d) none).1.1.1.0 in
-          let can = can_post s (brought s d) d.q h entry world t live.1 live.2 room (draft_typed d entry step.0 small e) (brought_whole s d world step.0) (spares_halves s d r.0 world r.1) in
+          let can = can_post s (brought s d) d.q h entry world t live.1 live.2 room (draft_typed d entry step.0 (draft_blocks s d r.0 world r.1) small e) (brought_whole s d world step.0) (spares_halves s d r.0 world r.1) in
           ties s (events.Submit d) events.Accepted host pages (brought s d) d.q h can.0 entry (change d.q (tail_moved s.host.entries) s.host.host.queues) can.1 (spares_walks s d r.0 world r.1)
           (answer_as_machine s (events.Submit d) events.Accepted host pages refl refl step) refl step.2 (submitted_posts s d entry h e live.1)
           (record { lists = refl; stands = λ stands. stands })

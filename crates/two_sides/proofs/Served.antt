@@ -11,27 +11,29 @@ use Rattle.sgl_descriptor.{proofs.Spells.reads_itself, specs.{Spelling.{Fits, sp
 use Rattle.sgl_descriptor.specs.declared.{Descriptor.{Descriptor, TheVariants.{DataBlock, Segment, LastSegment}}, Direction.Direction, Part.{Part, TheVariants.Data as PartData}}
 use Rattle.io_commands.{proofs.{Building.{counted, entry_blocks, joined_parts_few, built_drafts_spell, few_pieces, no_pieces}, Pointers.{pointer_moves, pointer_still}}, specs.Asked.Request}
 use Rattle.io_commands.specs.Drafts.{io_entry, DraftContents, HoldsPages, draft_first, draft_parts, IsDraft, IsBuiltIfAny}
-use Rattle.io_commands.specs.Jobs.{direction_of_entry, need_of_entry}
-use Rattle.io_commands.specs.Requests.{parts_of, data_count, is_empty_piece, crosses_page, counted_length, counted_lengths, is_count, moves_data, need_of, direction_of, FitsPiece, joined_parts, FitsRequest, fault_of}
-use Rattle.io_commands.specs.{Values.{IsGood, numbers_of, FinishedContents}, declared.request.{Flags.Flags, Kind.{Kind, TheVariants.{Read, Write, Compare, WriteZeroes, Verify, Flush}}, Piece.Piece}}
+use Rattle.io_commands.specs.Jobs.{direction_by, direction_of_entry, kind_of_opcode, need_of_entry}
+use Rattle.io_commands.specs.Requests.{parts_of, data_count, has_its_bytes, is_admin, is_empty_piece, is_hosts_own, crosses_page, counted_length, counted_lengths, is_count, moves_data}
+use Rattle.io_commands.specs.Requests.{need_of, direction_of, opcode_of, FitsPiece, joined_parts, FitsRequest, fault_of}
+use Rattle.io_commands.specs.{Values.{IsGood, numbers_of, FinishedContents}, declared.admin.{AdminCommand.AdminCommand, PageUse.PageUse}}
+use Rattle.io_commands.specs.declared.request.{Flags.Flags, Kind.{Kind, TheVariants.{Read, Write, Compare, WriteZeroes, Verify, Flush, Admin}}, Piece.Piece}
 use Rattle.io_commands.specs.declared.request.{Piece.TheVariants.{Data, Bucket}, RequestFault.RequestFault}
-use Rattle.io_commands.specs.declared.request.RequestFault.TheVariants.{TooManyPieces, EmptyPiece, CrossesPage, BadCount, LengthMismatch}
+use Rattle.io_commands.specs.declared.request.RequestFault.TheVariants.{TooManyPieces, EmptyPiece, CrossesPage, BadCount, LengthMismatch, HostsOwn}
 use Rattle.io_commands.specs.{BlockSizes.{block_bytes}, declared.block_size.BlockSize.{BlockSize, TheVariants.{Bytes512, Bytes1024, Bytes2048, Bytes4096}}}
 use Rattle.machine_model.proofs.Counting.{times-append, held_once, times-cons}
 use Rattle.machine_model.proofs.Owned.{in_record, is_out, taken, none_here, in_is, holds_from_sound, taken_le, taken_from_out}
 use Rattle.machine_model.{proofs.Steps.{first_fails, rest_fails, in_store, length-in_store, found, unrefused}, specs.After.course_of}
 use Rattle.machine_model.specs.{Claims.{OwnsFit, IsSound}, Memory.{memory_of, with_pages, is_in}, Proper.{IsPage, ArePages, IsProperDraft}}
 use Rattle.machine_model.specs.Reached.{on_pages, LiesIn, IsThere, only, CourseIn, AreApart, IsListIn}
-use Rattle.machine_model.specs.Refusals.{is_submitted, same_piece, same_pieces, same_kind, same_flags, same_request, refusal_of, record_is, is_held, takes}
+use Rattle.machine_model.specs.Refusals.{is_submitted, same_command, same_piece, same_pieces, same_kind, same_flags, same_request, same_use, refusal_of, record_is, is_held, takes}
 use Rattle.machine_model.specs.{Standing.{IsSized, ListStands, StandsAs, CommandStands, HasUnitLeft}, State.{State, Record, Job, is_at, record_at, pages_of}}
 use Rattle.machine_model.specs.{Step.{times, IsReserved, AnswersAnything, asked_by, finished_from, pages_with_bytes, zeroed}, Weights.{one, total}, Work.Work}
-use Rattle.machine_model.specs.declared.words.{BlockSizes.TheVariants.{Only512}, Phase.TheVariants.{Drafted, Submitted, Held, Collected}, Work.TheVariants.{Io, Management}}
+use Rattle.machine_model.specs.declared.words.{Peer.TheVariants.{Modelled}, Phase.TheVariants.{Drafted, Submitted, Held, Collected}, Work.TheVariants.{Io, Management}}
 use Rattle.sgl_chain.proofs.{Back.spells_there, Joins.{joined_from, from_list, same_targets, same_count}, Spelled.spells}
 use Rattle.sgl_chain.specs.{Chains.{first_of, pages_needed}, Joining.{joins, both, joined}, Laws.HasBytesOf, Spells.{Spells, Holds}}
 use Rattle.controller_walk.{proofs.Same.list_served, specs.{Along.parts_of_list, Serving.Serves, Units.{Stays, Reads, Moves, Course, Closes, Does, verdict, after_read, course_of_list, entry_cursor, moving, pages_spanned, rest_of}}}
 use Rattle.controller_walk.specs.declared.walk.WalkState.{WalkState, TheVariants.{More, End, Fault}}
 use Rattle.entry_codec.specs.declared.{status.{Status.Status, TheConstants.Status.{DATA_TRANSFER_ERROR, DATA_SGL_LENGTH_INVALID}}, submission.SubEntry.SubEntry}
-use Rattle.two_sides.proofs.{Ending.{list_in, lists_end, bytes_there}, Provided.{In, in_found, sent_found}, TiedAll.Grounds}
+use Rattle.two_sides.proofs.{Ending.{list_in, lists_end, bytes_there}, Provided.{In, in_found, sent_found}, TiedAll.{Grounds, admins_of}}
 use Rattle.two_sides.proofs.Untouched.{sent_page, owned_once, among_counts, holds_right, holds_left, holds_right as among_right}
 use Rattle.two_sides.specs.InOrder.{IsInOrder, reserved_drafts_are_proper, collected_commands_are_proper}
 use Rattle.queue_pair.proofs.Rings.{bytes_agree}
@@ -44,11 +46,11 @@ pub use Rattle.machine_model.specs.Agreeing.{is_out_of_service_at as past_at, co
 -- what a request that passes its check is
 pub record Good (r : Request) : Type 0 where
   pub crosses : list_any crosses_page r.pieces ≡ false
-  pub counted : counted_lengths r.kind r.pieces ≡ need_of r.kind r.block_size r.blocks
+  pub counted : is_admin r.kind ≡ false → counted_lengths r.kind r.pieces ≡ need_of r.kind r.block_size r.blocks
 
 pub good_is : (r : Request) → IsGood r → Good r
 good_is r h =
-    let fourth = (not (is_count r.kind r.block_size r.blocks), BadCount) ∷ (not (counted_lengths r.kind r.pieces == need_of r.kind r.block_size r.blocks), LengthMismatch) ∷ [] in
+    let fourth = (not (is_count r.kind r.block_size r.blocks), BadCount) ∷ (not (has_its_bytes r.kind r.block_size r.blocks r.pieces), LengthMismatch) ∷ (is_hosts_own r.kind, HostsOwn) ∷ [] in
     let third = (list_any crosses_page r.pieces, CrossesPage) ∷ fourth in
     let second = (list_any is_empty_piece r.pieces, EmptyPiece) ∷ third in
     record {
@@ -59,8 +61,17 @@ good_is r h =
 
 -- The entry moves the request's bytes in its direction
 
-pub entry_direction : (cid : ℕ) (r : Request) (sgl1 : List ℕ) → direction_of_entry (io_entry cid r sgl1) ≡ direction_of r.kind
-entry_direction cid r sgl1 = grind arith
+opcode_direction : (kind : Kind) → is_admin kind ≡ false → direction_by (kind_of_opcode (opcode_of kind)) ≡ direction_of kind
+opcode_direction Read far = refl
+opcode_direction Write far = refl
+opcode_direction Compare far = refl
+opcode_direction WriteZeroes far = refl
+opcode_direction Verify far = refl
+opcode_direction Flush far = refl
+opcode_direction (Admin command) far = absurd (true≢false far)
+
+pub entry_direction : (cid : ℕ) (r : Request) (sgl1 : List ℕ) → is_admin r.kind ≡ false → direction_of_entry (io_entry cid r sgl1) ≡ direction_of r.kind
+entry_direction cid r sgl1 far = opcode_direction r.kind far
 
 pub entry_need : (cid : ℕ) (r : Request) (sgl1 : List ℕ) → IsGood r → r.block_size ≡ Bytes512 → moves_data r.kind ≡ true → need_of_entry (io_entry cid r sgl1) ≡ need_of r.kind r.block_size r.blocks
 entry_need cid r sgl1 good size moves =
@@ -81,14 +92,16 @@ counted_parts kind moves (Bucket len ∷ pieces) pages few = go kind moves (coun
     go WriteZeroes moves ih = absurd (true≢false (sym moves))
     go Verify moves ih = absurd (true≢false (sym moves))
     go Flush moves ih = absurd (true≢false (sym moves))
+    go (Admin command) moves ih = absurd (true≢false (sym moves))
 counted_parts kind moves (Data offset len ∷ pieces) [] few = absurd (grind (arith, common_steps))
 counted_parts kind moves (Data offset len ∷ pieces) (page ∷ pages) few =
     omega (arith, counted_parts kind moves pieces pages (grind (arith, common_steps)), sum_by-cons (counted_length kind) (Data offset len) pieces)
 
-pub parts_count : (r : Request) (pages : List ℕ) → IsGood r → length pages ≡ data_count r.pieces → counted_in (direction_of r.kind) (parts_of r.pieces pages) ≡ need_of r.kind r.block_size r.blocks
-parts_count r pages good has = elim (cases_Bool (moves_data r.kind)) [
-  | inl moves ↦ counted_parts r.kind moves r.pieces pages (omega (arith, has)) ∙ (good_is r good).counted
-  | inr still ↦ ap (λ (pieces : List Piece). counted_in (direction_of r.kind) (parts_of pieces pages)) (no_pieces r.kind r.block_size r.blocks r.pieces good still) ∙ sym (ap (λ (b : Bool). if b then block_bytes r.block_size * r.blocks else 0) still)
+pub parts_count : (r : Request) (pages : List ℕ) → IsGood r → is_admin r.kind ≡ false → length pages ≡ data_count r.pieces → counted_in (direction_of r.kind) (parts_of r.pieces pages) ≡ need_of r.kind r.block_size r.blocks
+parts_count r pages good far has = elim (cases_Bool (moves_data r.kind)) [
+  | inl moves ↦ counted_parts r.kind moves r.pieces pages (omega (arith, has)) ∙ (good_is r good).counted far
+  | inr still ↦ ap (λ (pieces : List Piece). counted_in (direction_of r.kind) (parts_of pieces pages)) (no_pieces r.kind r.block_size r.blocks r.pieces good still far)
+      ∙ sym (ap (λ (b : Bool). if b then block_bytes r.block_size * r.blocks else 0) still)
 ]
 
 -- each part that has a place lies in one of the pages
@@ -189,7 +202,6 @@ pub record Stood (s : State) : Type 0 where
   pub commands : Commands s.memory s.controller.queues s.controller.jobs s.host.records
   pub places : Places s.host.queues s.host.records s.controller.queues s.controller.jobs
   pub walks : AllByRecursion (HasUnitLeft s) s.controller.jobs
-  pub only_512 : s.host.block_sizes ≡ Only512
 
 -- The record of a job
 
@@ -217,11 +229,11 @@ job_list s stood j within other at =
     let r = sent_found j.q j.entry.cid s.host.records (omega (arith, counts, stood.places j.q w)) (stood.grounds.stands.0.once j.q j.entry.cid) in
     let ids = and_parts (r.0.q == j.q) (r.0.cid == j.entry.cid) (found_is (is_at j.q j.entry.cid) s.host.records r.0 r.1) in
     of_work r.0 r.1 r.2 (eqb-true r.0.q j.q ids.0) (eqb-true r.0.cid j.entry.cid ids.1) r.0.work refl
-    (all-found (λ r. OwnsFit r.q r.work (pages_of r)) (is_at j.q j.entry.cid) s.host.records r.0 r.1 stood.grounds.stands.0.admins)
+    (all-found (λ r. OwnsFit Modelled r.q r.work (pages_of r)) (is_at j.q j.entry.cid) s.host.records r.0 r.1 (admins_of s stood.grounds))
     (all-found (CommandStands s.memory s.controller.queues s.controller.jobs) (is_at j.q j.entry.cid) s.host.records r.0 r.1 stood.commands)
   where
     of_work : (r : Record) → record_at s.host j.q j.entry.cid ≡ Some r → is_submitted r.phase ≡ true → r.q ≡ j.q → r.cid ≡ j.entry.cid → (work : Work) → r.work ≡ work
-        → OwnsFit r.q r.work (pages_of r) → CommandStands s.memory s.controller.queues s.controller.jobs r → JobList s j
+        → OwnsFit Modelled r.q r.work (pages_of r) → CommandStands s.memory s.controller.queues s.controller.jobs r → JobList s j
     of_work r e sub rq rc (Io request) is fit stands =
         let stands' : StandsAs s.memory s.controller.queues s.controller.jobs r (Io request) = subst (StandsAs s.memory s.controller.queues s.controller.jobs r) is stands in
         let list = stands'.1 sub in
@@ -237,7 +249,7 @@ job_list s stood j within other at =
           entry = at (λ k. k.q ≡ r.q → k.entry.cid ≡ r.cid → k.entry ≡ io_entry r.cid request (spelling list.first)) list.entry.fetched (sym rq) (sym rc);
         }
     of_work r e sub rq rc (Management adm) is fit stands =
-        absurd (true≢false (sym (eq-eqb j.q 0 (sym rq ∙ (subst (λ (x : Work). OwnsFit r.q x (pages_of r)) is fit).0)) ∙ other))
+        absurd (true≢false (sym (eq-eqb j.q 0 (sym rq ∙ (subst (λ (x : Work). OwnsFit Modelled r.q x (pages_of r)) is fit).0)) ∙ other))
 
 -- Its pages
 
@@ -372,11 +384,11 @@ course_whole s stood j l moves =
     let list = list_of_job s j l moves in
     let r = l.command in
     let g = good_is l.request l.sized.good in
-    let same_direction : direction_of_entry j.entry ≡ direction_of l.request.kind = ap direction_of_entry l.entry ∙ entry_direction r.cid l.request (spelling l.list.first) in
+    let same_direction : direction_of_entry j.entry ≡ direction_of l.request.kind = ap direction_of_entry l.entry ∙ entry_direction r.cid l.request (spelling l.list.first) l.sized.blocks in
     let same_need : need_of_entry j.entry ≡ need_of l.request.kind l.request.block_size l.request.blocks =
     ap need_of_entry l.entry ∙ entry_need r.cid l.request (spelling l.list.first) l.sized.good l.sized.size moves in
     let count : counted_in (direction_of_entry j.entry) (parts_of l.request.pieces r.data_pages) ≡ need_of_entry j.entry =
-    ap (λ d. counted_in d (parts_of l.request.pieces r.data_pages)) same_direction ∙ parts_count l.request r.data_pages l.sized.good l.sized.pages ∙ sym same_need in
+    ap (λ d. counted_in d (parts_of l.request.pieces r.data_pages)) same_direction ∙ parts_count l.request r.data_pages l.sized.good l.sized.blocks l.sized.pages ∙ sym same_need in
     let both = lists_end (memory_of s.memory) j.entry.sgl1 list.first (joined_parts l.request.pieces r.data_pages) (direction_of_entry j.entry) (need_of_entry j.entry)
     (low_places s.memory stood.few) list.spelled
     (spells_there (only (on_pages r.chain_pages) (memory_of s.memory)) (memory_of s.memory) (more_than_only (on_pages r.chain_pages) (memory_of s.memory)) list.first (joined_parts l.request.pieces r.data_pages) list.spells)
@@ -437,7 +449,29 @@ lists_same [] [] h = refl
 lists_same (x ∷ xs) (y ∷ ys) h = let both = and_parts (same_piece x y) (same_pieces xs ys) h in rw (pieces_same x y both.0, lists_same xs ys both.1) refl
 lists_same x y h = absurd (true≢false (sym h))
 
+uses_same : (a b : PageUse) → same_use a b ≡ true → a ≡ b
+uses_same a b h = grind arith
+
+commands_same : (a b : AdminCommand) → same_command a b ≡ true → a ≡ b
+commands_same a b h =
+    let to_15 = and_parts _ (a.cdw15 == b.cdw15) h in
+    let to_14 = and_parts _ (a.cdw14 == b.cdw14) to_15.0 in
+    let to_13 = and_parts _ (a.cdw13 == b.cdw13) to_14.0 in
+    let to_12 = and_parts _ (a.cdw12 == b.cdw12) to_13.0 in
+    let to_11 = and_parts _ (a.cdw11 == b.cdw11) to_12.0 in
+    let to_10 = and_parts _ (a.cdw10 == b.cdw10) to_11.0 in
+    let first = and_parts (a.opcode == b.opcode) (same_use a.page b.page) to_10.0 in
+    made a.opcode b.opcode a.page b.page a.cdw10 b.cdw10 a.cdw11 b.cdw11 a.cdw12 b.cdw12 a.cdw13 b.cdw13 a.cdw14 b.cdw14 a.cdw15 b.cdw15
+    (eqb-true a.opcode b.opcode first.0) (uses_same a.page b.page first.1) (eqb-true a.cdw10 b.cdw10 to_10.1) (eqb-true a.cdw11 b.cdw11 to_11.1) (eqb-true a.cdw12 b.cdw12 to_12.1)
+    (eqb-true a.cdw13 b.cdw13 to_13.1) (eqb-true a.cdw14 b.cdw14 to_14.1) (eqb-true a.cdw15 b.cdw15 to_15.1)
+  where
+    made : (o o' : ℕ) (p p' : PageUse) (x x' y y' z z' u u' v v' w w' : ℕ) → o ≡ o' → p ≡ p' → x ≡ x' → y ≡ y' → z ≡ z' → u ≡ u' → v ≡ v' → w ≡ w'
+        → ◌≡◌ {A = AdminCommand} (record { opcode = o; page = p; cdw10 = x; cdw11 = y; cdw12 = z; cdw13 = u; cdw14 = v; cdw15 = w })
+        (record { opcode = o'; page = p'; cdw10 = x'; cdw11 = y'; cdw12 = z'; cdw13 = u'; cdw14 = v'; cdw15 = w' })
+    made o o' p p' x x' y y' z z' u u' v v' w w' eo ep ex ey ez eu ev ew = rw (eo, ep, ex, ey, ez, eu, ev, ew) refl
+
 kinds_same : (a b : Kind) → same_kind a b ≡ true → a ≡ b
+kinds_same (Admin a) (Admin b) h = ap Admin (commands_same a b h)
 kinds_same a b h = grind arith
 
 bools_same : (x y : Bool) → beq x y ≡ true → x ≡ y
@@ -605,13 +639,13 @@ reserved_is_good s q r h =
     go (fault_of r.kind r.block_size r.blocks r.pieces) (unrefused s (events.Reserve q r) h).1.1.0
 
 -- and where the host takes blocks of 512 bytes alone, it has such blocks
-only_takes : (size : BlockSize) → takes Only512 size ≡ true → size ≡ Bytes512
+only_takes : (size : BlockSize) → takes Modelled size ≡ true → size ≡ Bytes512
 only_takes Bytes512 h = refl
 only_takes size h = absurd (true≢false (sym h))
 
-pub reserved_size : (s : State) (q : ℕ) (r : Request) → s.host.block_sizes ≡ Only512 → refusal_of s (events.Reserve q r) ≡ None → r.block_size ≡ Bytes512
+pub reserved_size : (s : State) (q : ℕ) (r : Request) → s.host.peer ≡ Modelled → refusal_of s (events.Reserve q r) ≡ None → r.block_size ≡ Bytes512
 reserved_size s q r only none =
-    only_takes r.block_size (ap (λ sizes. takes sizes r.block_size) (sym only) ∙ not-false (takes s.host.block_sizes r.block_size) (unrefused s (events.Reserve q r) none).1.1.1.0)
+    only_takes r.block_size (ap (λ sizes. takes sizes r.block_size) (sym only) ∙ not-false (takes s.host.peer r.block_size) (unrefused s (events.Reserve q r) none).1.1.1.0)
 
 reserved_draft : (s : State) (q : ℕ) (r : Request) (d : DraftContents) → IsInOrder s → IsGood r → IsReserved s q r d → IsDraft d
 reserved_draft s q r d order good reserved = record {

@@ -291,7 +291,7 @@ serve_host_event s e reply ok c agree h =
       reserves = λ q request d none is. h;
       submits = λ d entry r none built its live.
           serve_ring (next_tail s.entries) d.q hs (change d.q (posted_on entry) ds) (waiting (change d.q (posted_on entry) ds))
-          (serve_other (posted_on entry) d.q hs ds (λ x there. there) (io_other s d.q d.cid r its.asked.0 holds its.found its.asked.1) h);
+          (serve_other (posted_on entry) d.q hs ds (λ x there. there) (io_other s d.q d.cid r its.asked.0 agree.modelled holds its.found its.asked.1) h);
       cancels = λ d r its. h;
       rings = λ q none. serve_same (λ at. record at { rung = length at.unfetched }) q hs ds (λ x there. there) (λ x. refl) h;
       rests = λ q is. h;

@@ -15,7 +15,7 @@ use Rattle.machine_model.specs.{Claims.OwnsFit, Events.{Event, Reply}, Memory.{i
 use Rattle.machine_model.specs.Refusals.{in_service, served_queue, next_rung, job_at, fetch_slot, refusal_of, completions_full, post_page, is_job, front_completion, is_submitted, is_reaped}
 use Rattle.machine_model.specs.State.{ServedQueue, HostQueue, State, Controller, Record, Job, PostedCompletion, is_at, record_at, pages_of, without_record, with_record, outstanding_on}
 use Rattle.machine_model.specs.{Step.{host_part, HostPart, IsController, times}, Weights.{total, one, here}, Work.Work, declared.words.Phase.TheVariants.Held}
-use Rattle.machine_model.specs.declared.words.{Refusal.Refusal, Work.TheVariants.{Io, Management}}
+use Rattle.machine_model.specs.declared.words.{Peer.{Peer, TheVariants.{Modelled}}, Refusal.Refusal, Work.TheVariants.{Io, Management}}
 use Rattle.queue_pair.specs.Members.{change}
 use Rattle.entry_codec.specs.declared.{admin_opcode.TheConstants.{ABORT, DELETE_IO_SQ, DELETE_IO_CQ, CREATE_IO_CQ, CREATE_IO_SQ}, completion.ComEntry.ComEntry}
 use Rattle.entry_codec.specs.declared.status.{Status.Status, TheConstants.Status.{SUCCESS, COMMAND_ID_CONFLICT, ABORT_REQUESTED, ABORTED_SQ_DELETION}}
@@ -442,28 +442,31 @@ stands_reaped cid an s first is once h = record { placed = rw (waiting_same (λ 
 abbrev pub StandsSound : State → Type 0
 StandsSound s = HoldsPart (host_part s) × Stands s
 
--- an admin command is of queue 0, and an I/O command is not
-owns_fit : (s : State) (q cid : ℕ) (r : Record) (w : Work) → HoldsPart (host_part s) → record_at s.host q cid ≡ Some r → r.work ≡ w → (r.q ≡ q) × OwnsFit r.q w (pages_of r)
+-- each command fits its queue as the host's peer has it: an admin command is of queue 0, and in a world an I/O command is not
+owns_fit : (s : State) (q cid : ℕ) (r : Record) (w : Work) → HoldsPart (host_part s) → record_at s.host q cid ≡ Some r → r.work ≡ w → (r.q ≡ q) × OwnsFit s.host.peer r.q w (pages_of r)
 owns_fit s q cid r w holds e is = (
   eqb-true r.q q (and_parts (r.q == q) (r.cid == cid) (found_is (is_at q cid) s.host.records r e)).0,
-  subst (λ (x : Work). OwnsFit r.q x (pages_of r)) is (found_all (λ r'. OwnsFit r'.q r'.work (pages_of r')) (is_at q cid) s.host.records r e holds.admins),
+  subst (λ (x : Work). OwnsFit s.host.peer r.q x (pages_of r)) is (found_all (λ r'. OwnsFit s.host.peer r'.q r'.work (pages_of r')) (is_at q cid) s.host.records r e holds.admins),
 )
 
 pub admin_zero : (s : State) (q cid : ℕ) (r : Record) (adm : AdminKind) → HoldsPart (host_part s) → record_at s.host q cid ≡ Some r → r.work ≡ Management adm → q ≡ 0
 admin_zero s q cid r adm holds e w = let fit = owns_fit s q cid r (Management adm) holds e w in sym fit.0 ∙ fit.1.0
 
-pub io_other : (s : State) (q cid : ℕ) (r : Record) (request : Request) → HoldsPart (host_part s) → record_at s.host q cid ≡ Some r → r.work ≡ Io request → (q == 0) ≡ false
-io_other s q cid r request holds e w = let fit = owns_fit s q cid r (Io request) holds e w in ap (λ (k : ℕ). k == 0) (sym fit.0) ∙ fit.1
+pub io_other : (s : State) (q cid : ℕ) (r : Record) (request : Request) → s.host.peer ≡ Modelled → HoldsPart (host_part s) → record_at s.host q cid ≡ Some r → r.work ≡ Io request → (q == 0) ≡ false
+io_other s q cid r request modelled holds e w =
+    let fit = owns_fit s q cid r (Io request) holds e w in
+    let other : (r.q == 0) ≡ false = subst (λ (peer : Peer). OwnsFit peer r.q (Io request) (pages_of r)) modelled fit.1 in
+    ap (λ (k : ℕ). k == 0) (sym fit.0) ∙ other
 
-stands_host : (s : State) (e : Event) (reply : Reply) → Accepts s e reply → IsController e ≡ false → s.trusted ≡ true → StandsSound s → Stands (a.after s e reply)
-stands_host s e reply ok c t h =
+stands_host : (s : State) (e : Event) (reply : Reply) → Accepts s e reply → IsController e ≡ false → s.trusted ≡ true → s.host.peer ≡ Modelled → StandsSound s → Stands (a.after s e reply)
+stands_host s e reply ok c t m h =
     host_moves (λ (e : Event) (reply : Reply) (t : State). Stands t) s e reply ok c
     (record {
       reserves = λ q request d none is. records_more s.host.records (drafted_record d) s.controller h.1;
       submits = λ d entry r none built its live.
-          stands_posted_other d.q entry (a.on_records (with_record d.q d.cid a.submitted) (a.on_memory (with_pages (d.data_pages ++ d.chain_pages)) s)) (io_other s d.q d.cid r its.asked.0 h.0 its.found its.asked.1)
+          stands_posted_other d.q entry (a.on_records (with_record d.q d.cid a.submitted) (a.on_memory (with_pages (d.data_pages ++ d.chain_pages)) s)) (io_other s d.q d.cid r its.asked.0 m h.0 its.found its.asked.1)
           (records_with s.host.records d.q d.cid a.submitted s.controller (λ r. refl) (λ r. refl) (λ r. refl) h.1);
-      cancels = λ d r its. records_less s.host.records d.q d.cid s.controller (io_other s d.q d.cid r its.asked.0 h.0 its.found its.asked.1) h.1;
+      cancels = λ d r its. records_less s.host.records d.q d.cid s.controller (io_other s d.q d.cid r its.asked.0 m h.0 its.found its.asked.1) h.1;
       rings = λ q none.
           placed_change s.host.records s.controller q (λ at. record at { rung = length at.unfetched }) (waiting_same _ (λ at. refl) q s.controller.queues) (admin_completions_same _ (λ at. refl) q s.controller.queues) h.1;
       rests = λ q is. h.1;
@@ -477,7 +480,7 @@ stands_host s e reply ok c t h =
       makes_sq = λ q cid st what e r k n base told heard w good. gone q cid st e r (CreateSq k n base) heard w;
       unmakes_sq = λ q cid st what e r k n base queue told heard w at bad. gone q cid st e r (CreateSq k n base) heard w;
       collects = λ q cid r f at held is. records_with s.host.records q cid a.collected s.controller (λ r. refl) (λ r. refl) (λ r. refl) h.1;
-      releases = λ f r its. records_less s.host.records f.q f.cid s.controller (io_other s f.q f.cid r its.asked.0 h.0 its.found its.asked.1) h.1;
+      releases = λ f r its. records_less s.host.records f.q f.cid s.controller (io_other s f.q f.cid r its.asked.0 m h.0 its.found its.asked.1) h.1;
       aborts = λ q cid id none new. stands_sent (Abort q cid) id s (unused s 0 id new) h.1;
       asks = λ q id queue none new live. stands_sent (DeleteSq q) id s (unused s 0 id new) h.1;
       drops = λ q id none new. stands_sent (DeleteCq q) id s (unused s 0 id new) h.1;
@@ -518,17 +521,17 @@ controller_records s e reply c = ap (λ (part : HostPart). part.host.records) (p
 with_records : (s t : State) → t.host.records ≡ s.host.records → PlacedIn s.host.records t.controller → Stands t
 with_records s t e h = subst (λ (rs : List Record). PlacedIn rs t.controller) (sym e) h
 
-pub stands_event : (s : State) (e : Event) (reply : Reply) → Accepts s e reply → s.trusted ≡ true → StandsSound s → Stands (a.after s e reply)
-stands_event s (events.Fetch q) (events.Fetched c touched) ok t h =
+pub stands_event : (s : State) (e : Event) (reply : Reply) → Accepts s e reply → s.trusted ≡ true → s.host.peer ≡ Modelled → StandsSound s → Stands (a.after s e reply)
+stands_event s (events.Fetch q) (events.Fetched c touched) ok t m h =
     with_records s (a.after_fetch q s) (controller_records s (events.Fetch q) (events.Fetched c touched) refl) (placed_fetch s.host.records q s h.1)
-stands_event s (events.Walk q cid) (events.Walked o touched) ok t h =
+stands_event s (events.Walk q cid) (events.Walked o touched) ok t m h =
     with_records s (a.after_walk q cid s) (controller_records s (events.Walk q cid) (events.Walked o touched) refl) (stands_walk q cid s ok.0 h.1)
-stands_event s (events.Complete q cid) (events.Completed touched) ok t h =
+stands_event s (events.Complete q cid) (events.Completed touched) ok t m h =
     with_records s (a.after_complete q cid s) (controller_records s (events.Complete q cid) (events.Completed touched) refl) (placed_complete s.host.records q cid s ok.0 h.1)
-stands_event s (events.Fetch q) reply ok t h = absurd ok.1
-stands_event s (events.Walk q cid) reply ok t h = absurd ok.1
-stands_event s (events.Complete q cid) reply ok t h = absurd ok.1
-stands_event s e reply ok t h = stands_host s e reply ok refl t h
+stands_event s (events.Fetch q) reply ok t m h = absurd ok.1
+stands_event s (events.Walk q cid) reply ok t m h = absurd ok.1
+stands_event s (events.Complete q cid) reply ok t m h = absurd ok.1
+stands_event s e reply ok t m h = stands_host s e reply ok refl t m h
 
 -- Runs in which nothing was forged.
 
@@ -544,8 +547,8 @@ forged_untrusted s q slot bytes ok = grind arith
 holds_on : (s : State) (e : Event) (reply : Reply) → Accepts s e reply → HoldsPart (host_part s) → HoldsPart (host_part (a.after s e reply))
 holds_on s e reply ok h = elim (cases_Bool (IsController e)) [ inl c ↦ subst HoldsPart (sym (part_controller s e reply c)) h | inr c ↦ host_event s e reply ok c h ]
 
-pub both_on : (s : State) (e : Event) (reply : Reply) → Accepts s e reply → s.trusted ≡ true → StandsSound s → StandsSound (a.after s e reply)
-both_on s e reply ok t h = (holds_on s e reply ok h.0, stands_event s e reply ok t h)
+pub both_on : (s : State) (e : Event) (reply : Reply) → Accepts s e reply → s.trusted ≡ true → s.host.peer ≡ Modelled → StandsSound s → StandsSound (a.after s e reply)
+both_on s e reply ok t m h = (holds_on s e reply ok h.0, stands_event s e reply ok t m h)
 
 pub opening_stands : (pages queues n s : ℕ) (image : List ℕ) → Stands (opening pages queues n s image)
 opening_stands pages queues n s image = record { placed = go queues }

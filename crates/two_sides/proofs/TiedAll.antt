@@ -2,19 +2,19 @@
 use Rattle.machine_model.specs.After as a
 use Rattle.machine_model.specs.Events as events
 use Rattle.std.proofs.Common.{◌≡◌, ℕ, zero, suc, ◌+◌, ◌<◌, ◌≤◌, ◌==◌, Bool, true, false, not, ◌||◌, Option, Some, None, List, [], length, replicate, slice_get, is_some, is_none, if◌then◌else◌, eqb-true, refl, ap, sym, ◌∙◌, arith, subst, ◌∷◌}
-use Rattle.std.{proofs.lemmas.Bool.{true≢false, and_parts, or_parts}, specs.Option.option_map_or}
+use Rattle.std.{proofs.lemmas.Bool.{true≢false, and_parts, or_parts}, specs.{List.AllByRecursion, Option.option_map_or}}
 use Rattle.page_memory.specs.declared.page.Half.TheVariants.{Submission, Completion}
 use Rattle.entry_codec.specs.{Status.is_success, declared.completion.ComEntry.ComEntry}
 use Rattle.queue_pair.specs.{Members.change, Memory.half_pages, Rings.{next_tail, next_head, knowing}}
 use Rattle.machine_model.proofs.Headline.{in_limits, limits_say, holds_at_opening, fits_pool, taken_at_opening}
-use Rattle.machine_model.proofs.{HostLeaves.host_leaves, Kept.{submissions_awaited, zero_host, zero_opened}}
+use Rattle.machine_model.proofs.{HostLeaves.{host_leaves, peer_after}, Kept.{submissions_awaited, zero_host, zero_opened}}
 use Rattle.machine_model.proofs.{Moves.{host_moves, half_from, grants_cq, grants_sq}, Owned.{HoldsPart, reset_length}}
 use Rattle.machine_model.proofs.Sound.{asks, asked_event, asked_at, opened_quiet, opened_waits_not, TakenPart, Both, both_events, small}
 use Rattle.machine_model.proofs.{Steps.{Accepts, part_controller, unrefused}, TokensKept.{tokens_of, tokens_to, same_length}}
 use Rattle.machine_model.specs.Agreeing.{is_known_deleted, waiting, admin_completions, is_absent_at as gone_at, has_completions_at as there_at, QueuesFit as Paired, QueueFits as PairOk}
-use Rattle.machine_model.specs.{Claims.AdminLives, Events.{Event, Reply}, Opening.{Opens, opening, queues_from, served_queue as opened}, Positions.IsInRing}
-use Rattle.machine_model.specs.{Refusals.{is_live, is_gone, job_at, refusal_of, is_job, host_queue}, State.{State, HostQueue, Job, ServedQueue}}
-use Rattle.machine_model.specs.{Step.{HostPart, host_part, IsController}, Weights.{one, total}, declared.words.HostState.TheVariants.{Live, Deleting}}
+use Rattle.machine_model.specs.{Claims.{AdminLives, OwnsFit}, Events.{Event, Reply}, Opening.{Opens, opening, queues_from, served_queue as opened}, Positions.IsInRing}
+use Rattle.machine_model.specs.{Refusals.{is_live, is_gone, job_at, refusal_of, is_job, host_queue}, State.{State, HostQueue, Job, ServedQueue, pages_of}}
+use Rattle.machine_model.specs.{Step.{HostPart, host_part, IsController}, Weights.{one, total}, declared.words.{HostState.TheVariants.{Live, Deleting}, Peer.{Peer, TheVariants.{Modelled}}}}
 use Rattle.two_sides.proofs.ControllerMoves.{tie_of, InRings, rings_on, rings_at_opening}
 use Rattle.two_sides.proofs.Standing.{StandsSound, stands_event, both_on, opening_stands}
 use Rattle.two_sides.proofs.Tied.{FitP, FitS, TieP, below, deleted_is_gone, tie_fetch, tie_walk, tie_complete, TieS, Ground, tie_host_event}
@@ -112,10 +112,11 @@ by_controller s e reply c f tie held =
     })
 
 -- of the host
-by_host : (s : State) (e : Event) (reply : Reply) → Accepts s e reply → IsController e ≡ false → s.trusted ≡ true → AdminLives s.host.queues → StandsSound s → FitS s → FitS (a.after s e reply)
-by_host s e reply ok c t zero' h f =
+by_host : (s : State) (e : Event) (reply : Reply) → Accepts s e reply → IsController e ≡ false → s.trusted ≡ true → s.host.peer ≡ Modelled → AdminLives s.host.queues → StandsSound s → FitS s → FitS (a.after s e reply)
+by_host s e reply ok c t m zero' h f =
     let tie = tie_host_event s e reply ok c (ground s t zero' h.0 f) (tie_of s.entries s.host.records s.host.queues s.controller.queues s.controller.jobs f) in
-    let held = tokens_host_event s e reply ok c t f.few (same_length s.entries s.host.queues s.controller.queues f.pairs) h.0 h.1 (stands_event s e reply ok t h) (tokens_of s.host.records s.host.queues s.controller.queues s.controller.jobs f.tokens) in
+    let held = tokens_host_event s e reply ok c t f.few (same_length s.entries s.host.queues s.controller.queues f.pairs) m h.0 h.1
+    (stands_event s e reply ok t m h) (tokens_of s.host.records s.host.queues s.controller.queues s.controller.jobs f.tokens) in
     let limits = limits_stay (length s.host.queues) s e reply ok c (f.some_entries, refl) in
     whole (a.after s e reply) limits.0 (subst (λ (k : ℕ). k ≤ 65536) (sym limits.1) f.few) (asked_event s e reply ok c h.0 f.asked) tie held
 
@@ -129,23 +130,24 @@ walked s q cid none h = tokens_walk s.host.records s.host.queues q cid s (go (jo
         let at = and_parts (j.q == q) (j.entry.cid == cid) (found_is (is_job q cid) s.controller.jobs j e) in
         ap (λ (k : ℕ). k == 0) (sym (eqb-true j.q q at.0)) ∙ (or_parts (is_some j.verdict) (j.q == 0) nothing).1
 
-fit_event : (s : State) (e : Event) (reply : Reply) → Accepts s e reply → s.trusted ≡ true → AdminLives s.host.queues → StandsSound s → FitS s → FitS (a.after s e reply)
-fit_event s (events.Fetch q) (events.Fetched c touched) ok t z h f =
+fit_event : (s : State) (e : Event) (reply : Reply) → Accepts s e reply → s.trusted ≡ true → s.host.peer ≡ Modelled → AdminLives s.host.queues → StandsSound s → FitS s → FitS (a.after s e reply)
+fit_event s (events.Fetch q) (events.Fetched c touched) ok t m z h f =
     by_controller s (events.Fetch q) (events.Fetched c touched) refl f (tie_fetch (host_part s) q s (tie_of s.entries s.host.records s.host.queues s.controller.queues s.controller.jobs f))
     (tokens_fetch s.host.records s.host.queues q s (known s h f) (tokens_of s.host.records s.host.queues s.controller.queues s.controller.jobs f.tokens))
-fit_event s (events.Walk q cid) (events.Walked o touched) ok t z h f =
+fit_event s (events.Walk q cid) (events.Walked o touched) ok t m z h f =
     by_controller s (events.Walk q cid) (events.Walked o touched) refl f (tie_walk (host_part s) q cid s (tie_of s.entries s.host.records s.host.queues s.controller.queues s.controller.jobs f))
     (walked s q cid ok.0 (tokens_of s.host.records s.host.queues s.controller.queues s.controller.jobs f.tokens))
-fit_event s (events.Complete q cid) (events.Completed touched) ok t z h f =
+fit_event s (events.Complete q cid) (events.Completed touched) ok t m z h f =
     by_controller s (events.Complete q cid) (events.Completed touched) refl f (tie_complete (host_part s) q cid s ok.0 (tie_of s.entries s.host.records s.host.queues s.controller.queues s.controller.jobs f))
     (tokens_complete s.host.records s.host.queues q cid s ok.0 (known s h f) (tokens_of s.host.records s.host.queues s.controller.queues s.controller.jobs f.tokens))
-fit_event s (events.Fetch q) reply ok t z h f = absurd ok.1
-fit_event s (events.Walk q cid) reply ok t z h f = absurd ok.1
-fit_event s (events.Complete q cid) reply ok t z h f = absurd ok.1
-fit_event s e reply ok t z h f = by_host s e reply ok refl t z h f
+fit_event s (events.Fetch q) reply ok t m z h f = absurd ok.1
+fit_event s (events.Walk q cid) reply ok t m z h f = absurd ok.1
+fit_event s (events.Complete q cid) reply ok t m z h f = absurd ok.1
+fit_event s e reply ok t m z h f = by_host s e reply ok refl t m z h f
 
-pub all_on : (s : State) (e : Event) (reply : Reply) → Accepts s e reply → s.trusted ≡ true → AdminLives s.host.queues → StandsSound s × FitS s → StandsSound (a.after s e reply) × FitS (a.after s e reply)
-all_on s e reply ok t z h = (both_on s e reply ok t h.0, fit_event s e reply ok t z h.0 h.1)
+pub all_on : (s : State) (e : Event) (reply : Reply) → Accepts s e reply → s.trusted ≡ true → s.host.peer ≡ Modelled → AdminLives s.host.queues → StandsSound s × FitS s
+    → StandsSound (a.after s e reply) × FitS (a.after s e reply)
+all_on s e reply ok t m z h = (both_on s e reply ok t m h.0, fit_event s e reply ok t m z h.0 h.1)
 
 -- As it opens
 
@@ -201,16 +203,22 @@ pub record Grounds (s : State) : Type 0 where
   pub stands : StandsSound s
   pub fit : FitS s
   pub zero_live : AdminLives s.host.queues
+  pub modelled : s.host.peer ≡ Modelled
+
+-- no command of the caller's is of queue 0
+pub admins_of : (s : State) → Grounds s → AllByRecursion (λ r. OwnsFit Modelled r.q r.work (pages_of r)) s.host.records
+admins_of s g = subst (λ (peer : Peer). AllByRecursion (λ r. OwnsFit peer r.q r.work (pages_of r)) s.host.records) g.modelled g.stands.0.admins
 
 pub grounds_on : (s : State) (e : Event) (reply : Reply) → Accepts s e reply → s.trusted ≡ true → Grounds s → Grounds (a.after s e reply)
 grounds_on s e reply ok t g =
-    let all' : StandsSound (a.after s e reply) × FitS (a.after s e reply) = all_on s e reply ok t g.zero_live (g.stands, g.fit) in
+    let all' : StandsSound (a.after s e reply) × FitS (a.after s e reply) = all_on s e reply ok t g.modelled g.zero_live (g.stands, g.fit) in
     record {
       taken = (both (IsController e) refl).1;
       rings = rings_on s e reply ok g.rings;
       stands = all'.0;
       fit = all'.1;
       zero_live = zeros (IsController e) refl;
+      modelled = peer_after s e reply ok ∙ g.modelled;
     }
   where
     both : (b : Bool) → IsController e ≡ b → Both (host_part (a.after s e reply))
@@ -230,6 +238,7 @@ grounds_at_opening pages queues n s image opens = record {
       let limits = in_limits pages queues n s opens in
       fit-opening pages queues n s image (limits_say pages queues n s limits).0 (limits_say pages queues n s limits).1;
   zero_live = zero_opened 0 n (queues + 1);
+  modelled = refl;
 }
 
 -- Halves and positions of the host's queues

@@ -20,7 +20,7 @@ use Rattle.machine_model.specs.Events.{Event, Reply}
 use Rattle.machine_model.specs.Refusals.{is_asked, is_live, is_making_sq, deletes_sq_of, creates_sq_of, job_at, next_rung, refusal_of, is_job, is_gone, is_submitted, has_cq_alone}
 use Rattle.machine_model.specs.State.{State, HostQueue, ServedQueue, Controller, Record, Job, PostedCompletion, is_at, without_record, with_record}
 use Rattle.machine_model.specs.{Step.{host_part, IsController}, Weights.{one, total, here}, Work.Work, declared.words.HostState.HostState}
-use Rattle.machine_model.specs.declared.words.{HostState.TheVariants.{Live, Deleting}, Phase.TheVariants.Held, Work.TheVariants.Management}
+use Rattle.machine_model.specs.declared.words.{HostState.TheVariants.{Live, Deleting}, Peer.TheVariants.{Modelled}, Phase.TheVariants.Held, Work.TheVariants.Management}
 use Rattle.queue_pair.specs.{Members.change, Rings.{next_tail, next_head, knowing}}
 use Rattle.two_sides.proofs.{ControllerMoves.{posted_completion, unit_done, finished, cleared, clears, fetch_by, walk_by, complete_by}, Provided.only_found}
 use Rattle.two_sides.proofs.Standing.{clears_io, admin_completions_more, some_zero, some_still, queue_there, waiting_same, admin_completions_same, waiting_other, admin_completions_other, runs_there, taken_entry, verdict_there, final_admin, PlacedIn, far_suc as ne_zero, Stands, admin_zero, io_other, admin_completions_rest}
@@ -594,9 +594,9 @@ heard_tokens zero cid st e r adm s hs is t heard w placed moved h =
 alone_known : (st : HostState) → has_cq_alone st ≡ true → is_known_deleted st ≡ true
 alone_known st h = grind arith
 
-pub tokens_host_event : (s : State) (e : Event) (reply : Reply) → Accepts s e reply → IsController e ≡ false → s.trusted ≡ true → length s.host.queues ≤ 65536 → length s.controller.queues ≡ length s.host.queues → HoldsPart (host_part s) → Stands s → Stands (a.after s e reply)
-    → TokensS s → TokensS (a.after s e reply)
-tokens_host_event s e reply ok c t few long holds stands left h =
+pub tokens_host_event : (s : State) (e : Event) (reply : Reply) → Accepts s e reply → IsController e ≡ false → s.trusted ≡ true → length s.host.queues ≤ 65536 → length s.controller.queues ≡ length s.host.queues
+    → s.host.peer ≡ Modelled → HoldsPart (host_part s) → Stands s → Stands (a.after s e reply) → TokensS s → TokensS (a.after s e reply)
+tokens_host_event s e reply ok c t few long m holds stands left h =
     let posted : AdminKind → ℕ → List ServedQueue = λ adm id. change 0 (λ at. record at { unfetched = at.unfetched ++ admin_entry adm id ∷ [] }) s.controller.queues in
     let with : (q cid : ℕ) (f : Record → Record) → KeepsKinds f → TokensHeld (with_record q cid f s.host.records) s.host.queues s.controller.queues (waiting s.controller.queues) s.controller.jobs (admin_completions s.controller.queues) = λ q cid f same.
     tokens_map s.host.records (λ r. if is_at q cid r then f r else r) s.host.queues s.controller.queues (waiting s.controller.queues) s.controller.jobs (admin_completions s.controller.queues) (keeps_with q cid f same) stands.placed h in
@@ -639,7 +639,7 @@ tokens_host_event s e reply ok c t few long holds stands left h =
           (fewer_kept rs (rs ++ drafted_record d ∷ []) un js ans stands.placed (λ c adm k. (k.0, find_more (is_at 0 c) rs (drafted_record d) k.0 k.1, k.2))).0 h;
       submits = λ d entry r none built its live left.
           let hs' = change d.q (λ x. record x { ring = next_tail s.entries x.ring }) hs in
-          posted_elsewhere (with_record d.q d.cid a.submitted rs) hs' d.q entry s.controller (io_other s d.q d.cid r its.asked.0 holds its.found its.asked.1)
+          posted_elsewhere (with_record d.q d.cid a.submitted rs) hs' d.q entry s.controller (io_other s d.q d.cid r its.asked.0 m holds its.found its.asked.1)
           (tokens_alike (with_record d.q d.cid a.submitted rs) hs hs' ds un js ans (alike_ring d.q (next_tail s.entries) hs) (with d.q d.cid a.submitted ((λ r'. refl), (λ r'. refl), (λ r'. refl))));
       cancels = λ d r its left. less d.q d.cid left.placed;
       rings = λ q none left.

@@ -2,7 +2,7 @@
 use Rattle.std.specs.Prelude.{◌≡◌, ℕ, zero, suc, ◌+◌, true, None, List, [], ◌∷◌}
 use Rattle.controller_core.specs.{Opening.opened, declared.queue.QueuePages.QueuePages}
 use Rattle.host_core.specs.{Opening.{refusal_of_config, opened_view, opened_pages}, declared.config.Config.Config}
-use Rattle.machine_model.specs.{Opening.{opening}, declared.words.BlockSizes.TheVariants.{Only512}}
+use Rattle.machine_model.specs.{Opening.{opening}, declared.words.Peer.TheVariants.{Modelled}}
 use Rattle.page_memory.specs.declared.page.Half.TheVariants.{Submission, Completion}
 use Rattle.queue_pair.specs.Memory.{half_pages}
 use Rattle.two_sides.specs.{Sides.{Sides, state_of}, Ties.IsWorld}
@@ -17,7 +17,7 @@ halves_from page n (suc count) =
 abbrev pub opened_sides : Config → List ℕ → Sides
 opened_sides c image =
     record {
-      host = opened_view c Only512;
+      host = opened_view c Modelled;
       controller = opened c.entries (halves_from 0 c.entries (c.queues + 1)) image;
       pages = opened_pages c;
       trusted = true;

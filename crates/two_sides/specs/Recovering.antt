@@ -1,15 +1,15 @@
 -- What a reset restores: whatever was forged, behind it both sides agree.
-use Rattle.std.specs.{List.AllByRecursion, Prelude.{◌≡◌, ℕ, ◌<◌, ◌≤◌, Some, List, length}}
+use Rattle.std.specs.{List.AllByRecursion, Prelude.{◌≡◌, ℕ, ◌<◌, ◌≤◌, false, Some, List, length}}
 use Rattle.block_image.specs.Blocks.{IsImage}
-use Rattle.io_commands.specs.{Asked.Request, Requests.FitsRequest, Values.IsGood}
+use Rattle.io_commands.specs.{Asked.Request, Requests.{is_admin, FitsRequest}, Values.IsGood}
 use Rattle.machine_model.specs.{After.{after_reset, lost_anywhere}, Agreeing.SidesAgree, Always.IsHostProvided, Claims.IsSound, Events.{Event, Reply}}
 use Rattle.machine_model.specs.{Opening.{opening, Opens}, Run.Run, State.{State, Record, record_at}, Work.Work}
 use Rattle.io_commands.specs.declared.block_size.BlockSize.TheVariants.{Bytes512}
-use Rattle.machine_model.specs.declared.words.{BlockSizes.TheVariants.{Only512}, Work.TheVariants.{Io, Management}}
+use Rattle.machine_model.specs.declared.words.{Peer.TheVariants.{Modelled}, Work.TheVariants.{Io, Management}}
 
--- an outstanding I/O command asks for what passes the check of requests, in blocks of 512 bytes
+-- an outstanding I/O command asks for what passes the check of requests, is no admin command, and has blocks of 512 bytes
 abbrev pub IsChecked : Work → Type 0
-IsChecked (Io request) = FitsRequest request × IsGood request × (request.block_size ≡ Bytes512)
+IsChecked (Io request) = FitsRequest request × IsGood request × (is_admin request.kind ≡ false) × (request.block_size ≡ Bytes512)
 IsChecked (Management a) = Unit {0}
 
 -- what holds of each world whatever was forged
@@ -18,7 +18,7 @@ pub record CanRecover (s : State) : Type 0 where
   pub provided : IsHostProvided s.entries s.segment s.host
   pub checked : AllByRecursion (λ r. IsChecked r.work) s.host.records
   -- the limits of the world
-  pub only_512 : s.host.block_sizes ≡ Only512
+  pub modelled : s.host.peer ≡ Modelled
   pub some_entries : 0 < s.entries
   pub few_queues : length s.host.queues ≤ 65536
   pub few_pages : length s.memory ≤ 65536

@@ -1,11 +1,12 @@
 -- What a walk that fetches leaves of its bytes is what its list leaves of them.
-use Rattle.std.proofs.Common.{◌≡◌, ◌≢◌, ◌+◌, ◌++◌, ◌∙◌, ℕ, Bool, true, false, not, List, Option, Some, None, ap, drop, refl, replicate, subst, sym, take}
+use Rattle.std.proofs.Common.{◌≡◌, ◌≢◌, ◌+◌, ◌++◌, ◌∙◌, ℕ, Bool, true, false, not, List, Option, Some, None, ap, drop, refl, replicate, subst, sym, take, arith}
 use Rattle.controller_walk.specs.Units.{Act, Closes, Course, Does, Moves, Reads, Stays}
 use Rattle.controller_walk.specs.Walks.{answer, course, course_in, direction_of, DoesFirst, IfMore, is_more, is_over, is_over_in, LeavesRest}
 use Rattle.controller_walk.specs.declared.{cause.WalkFault.WalkFault, progress.State.{State, TheVariants.{First, Next, Data, Over}}, walk.{Walk.Walk, WalkState.WalkState}}
 use Rattle.controller_walk.specs.declared.walk.WalkState.TheVariants.{More, End, Fault}
 use Rattle.entry_codec.specs.declared.submission.SubEntry.{SubEntry}
-use Rattle.io_commands.specs.{Jobs.{direction_by, direction_of_entry, kind_of_opcode}, declared.request.Kind.{Kind, TheVariants.{Compare, Flush, Read, Verify, Write, WriteZeroes}}}
+use Rattle.io_commands.specs.{Jobs.{direction_by, direction_of_entry, kind_of_opcode}, declared.request.Kind.{Kind, TheVariants.{Admin, Compare, Flush, Read, Verify, Write, WriteZeroes}}}
+use Rattle.io_commands.specs.declared.admin.AdminCommand.{AdminCommand}
 use Rattle.page_memory.specs.Memory.{Memory, bytes_at}
 use Rattle.sgl_descriptor.specs.declared.Direction.{Direction, TheVariants.Source}
 use Rattle.views.specs.{Ending.ends_with, Fetched.{fetched, Fetches, put_over}}
@@ -66,6 +67,10 @@ fetches_on begun w w' m now now' bytes mid bytes' way first second source =
 pub all_fetched : (begun w : Walk) (m now : Memory) (bytes bytes' : List ℕ) → Fetches begun w m now bytes bytes' → is_over w ≡ true → direction_of begun ≡ Source → bytes' ≡ fetched m (course m begun) bytes
 all_fetched begun w m now bytes bytes' fetches is source = sym (nothing_more w m bytes' is) ∙ (fetches source).1
 
+-- the controller has no admin command by an I/O opcode
+no_admin : (opcode : ℕ) (command : AdminCommand) → kind_of_opcode opcode ≡ Some (Admin command) → ⊥
+no_admin opcode command is = grind arith
+
 -- what is no Read fetches its bytes
 pub fetching : (e : SubEntry) (kind : Kind) → kind_of_opcode e.opcode ≡ Some kind → kind ≢ Read → direction_of_entry e ≡ Source
 fetching e Read is other = absurd (other refl)
@@ -74,6 +79,7 @@ fetching e Compare is other = ap direction_by is
 fetching e WriteZeroes is other = ap direction_by is
 fetching e Verify is other = ap direction_by is
 fetching e Flush is other = ap direction_by is
+fetching e (Admin command) is other = absurd (no_admin e.opcode command is)
 
 -- How a command ends hangs on its bytes only where it is a Compare.
 pub judged : (stored : List ℕ) (e : SubEntry) (kind : Kind) (bytes other : List ℕ) (why : Option WalkFault) → kind_of_opcode e.opcode ≡ Some kind → (kind ≢ Read → bytes ≡ other)
@@ -84,6 +90,7 @@ judged stored e Write bytes other None is same = rw is refl
 judged stored e WriteZeroes bytes other None is same = rw is refl
 judged stored e Verify bytes other None is same = rw is refl
 judged stored e Flush bytes other None is same = rw is refl
+judged stored e (Admin command) bytes other None is same = absurd (no_admin e.opcode command is)
 judged stored e Compare bytes other None is same = ap (λ (b : List ℕ). ends_with stored e b None) (same no_read)
   where
     no_read : Compare ≢ Read

@@ -25,7 +25,7 @@ ghost use Rattle.world_bench.specs.TouchingAll.{TouchAll};
 use crate::bench_tables::BenchTables;
 use block_image::Image;
 use host_core::{Config, Host};
-use machine_model::words::{BlockSizes, OpenRefusal};
+use machine_model::words::{OpenRefusal, Peer};
 use page_ledger::{Counts, Owner};
 use page_memory::{PageNo, Unreadable};
 use slot_table::SlotTable;
@@ -79,7 +79,7 @@ impl<A: Allocator + Copy> Bench<A> {
         ensures refused { IfErr result (λ refused. RefusesOpening config refused.why) }
         ensures handed_back { IfErr result (λ refused. refused.image ≡ image) }
     {
-        let opened = match Host::open(alloc, config, BlockSizes::Only512) {
+        let opened = match Host::open(alloc, config, Peer::Modelled) {
             Ok(opened) => opened,
             Err(why) => return Err(OpenRefused { image, why }),
         };

@@ -3,7 +3,7 @@
 ghost use Rattle.std.specs.Prelude.{◌≡◌};
 ghost use Rattle.nvmesgl_c.specs.HostKept.{kept_in};
 ghost use Rattle.nvmesgl_c.specs.HostReserving as reserving;
-ghost use Rattle.nvmesgl_c.specs.HostReserving.{Reserves, ReservesKept, ReservesOne};
+ghost use Rattle.nvmesgl_c.specs.HostReserving.{Reserves, ReservesAdmin, ReservesKept, ReservesOne};
 ghost use Rattle.nvmesgl_c.specs.Requests as requests;
 
 use crate::host::answer::told;
@@ -11,7 +11,7 @@ use crate::host::calls::refuse;
 use crate::host::code::code_of_reply;
 use crate::host::handle::Handle;
 use crate::host::tagged::{Tagged, give};
-use crate::words::{Answer, CPiece, CRequest, asked_of, plain};
+use crate::words::{Answer, CAdmin, CPiece, CRequest, admin_of, asked_of, plain};
 use host_bench::{Call, Refusal, Reply, Request};
 use std::alloc::Global;
 
@@ -78,6 +78,26 @@ pub extern "C" fn nvmehost_reserve_request(
         Err(code) => return refuse(alloc, handle, code, answer),
     };
     let reply = reserve_kept(alloc, handle, q, request, tag);
+    *answer = told(&reply);
+    code_of_reply(&reply)
+}
+
+/// Reserves an admin command of queue 0, as C asks for it, which gets a tag of the caller's. Its identifier and how many pages it has are told.
+#[unsafe(no_mangle)]
+pub extern "C" fn nvmehost_reserve_admin(
+    alloc: Global,
+    handle: &mut Handle,
+    asked: &CAdmin,
+    tag: u64,
+    answer: &mut Answer,
+) -> u32
+    ensures { ReservesAdmin (kept_in handle.old) asked.now tag result answer.new (kept_in handle.new) }
+{
+    let request = match admin_of(alloc, asked) {
+        Ok(request) => request,
+        Err(code) => return refuse(alloc, handle, code, answer),
+    };
+    let reply = reserve_kept(alloc, handle, 0, request, tag);
     *answer = told(&reply);
     code_of_reply(&reply)
 }

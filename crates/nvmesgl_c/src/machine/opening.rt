@@ -13,7 +13,7 @@ use crate::words::{
     Answer, NotOpened, code_of_not_opened, fault_of_form, image_for, nothing, told_not_opened,
 };
 use host_core::Host;
-use machine_model::words::BlockSizes;
+use machine_model::words::Peer;
 use std::alloc::Global;
 use step_core::{Config, ImageError, OpenRefusal};
 
@@ -21,7 +21,7 @@ use step_core::{Config, ImageError, OpenRefusal};
 fn why_without_image(alloc: Global, config: Config) -> OpenRefusal
     ensures { RefusesOpening config result }
 {
-    match Host::open(alloc, config, BlockSizes::Only512) {
+    match Host::open(alloc, config, Peer::Modelled) {
         Ok(opened) => {
             drop(opened);
             OpenRefusal::Memory

@@ -64,6 +64,7 @@ fn code_of_request_fault(why: RequestFault) -> u32
         RequestFault::CrossesPage => 42,
         RequestFault::BadCount => BAD_COUNT,
         RequestFault::LengthMismatch => 44,
+        RequestFault::HostsOwn => 47,
     }
 }
 

@@ -11,13 +11,13 @@ overflow_cast-result-in-Ok-open_tables g c = (fits_word c.args.config (sym c.in-
 
 pub invariant_of-result : goal.invariant_of-result
 invariant_of-result g c =
-    (opens_made c.args.config c.args.sizes c.in-Ok-open_tables.ledger c.in-Ok-open_tables.records c.in-Ok-open_tables.queues.items (sym c.in-None.ensures) c.in-Ok-open_tables.ensures.owners c.in-Ok-open_tables.ensures.granted c.in-Ok-open_tables.ensures.records c.in-Ok-open_tables.ensures.queues).host
+    (opens_made c.args.config c.args.peer c.in-Ok-open_tables.ledger c.in-Ok-open_tables.records c.in-Ok-open_tables.queues.items (sym c.in-None.ensures) c.in-Ok-open_tables.ensures.owners c.in-Ok-open_tables.ensures.granted c.in-Ok-open_tables.ensures.records c.in-Ok-open_tables.ensures.queues).host
 
 pub returns-in-Ok-open_tables-clause-host : goal.returns-in-Ok-open_tables-clause-host
 returns-in-Ok-open_tables-clause-host g c =
-    (opens_made c.args.config c.args.sizes c.in-Ok-open_tables.ledger c.in-Ok-open_tables.records c.in-Ok-open_tables.queues.items (sym c.in-None.ensures) c.in-Ok-open_tables.ensures.owners c.in-Ok-open_tables.ensures.granted c.in-Ok-open_tables.ensures.records c.in-Ok-open_tables.ensures.queues).view
+    (opens_made c.args.config c.args.peer c.in-Ok-open_tables.ledger c.in-Ok-open_tables.records c.in-Ok-open_tables.queues.items (sym c.in-None.ensures) c.in-Ok-open_tables.ensures.owners c.in-Ok-open_tables.ensures.granted c.in-Ok-open_tables.ensures.records c.in-Ok-open_tables.ensures.queues).view
 
 pub returns-in-Ok-open_tables-clause-over : goal.returns-in-Ok-open_tables-clause-over
 returns-in-Ok-open_tables-clause-over g c =
-    let made = opens_made c.args.config c.args.sizes c.in-Ok-open_tables.ledger c.in-Ok-open_tables.records c.in-Ok-open_tables.queues.items (sym c.in-None.ensures) c.in-Ok-open_tables.ensures.owners c.in-Ok-open_tables.ensures.granted c.in-Ok-open_tables.ensures.records c.in-Ok-open_tables.ensures.queues in
-    subst (λ (pages : Pages). IsOver (view_of (tables_made c.args.config c.args.sizes c.in-Ok-open_tables.ledger c.in-Ok-open_tables.records c.in-Ok-open_tables.queues.items)) pages) (sym c.in-Ok-open_tables.ensures.pages) made.over
+    let made = opens_made c.args.config c.args.peer c.in-Ok-open_tables.ledger c.in-Ok-open_tables.records c.in-Ok-open_tables.queues.items (sym c.in-None.ensures) c.in-Ok-open_tables.ensures.owners c.in-Ok-open_tables.ensures.granted c.in-Ok-open_tables.ensures.records c.in-Ok-open_tables.ensures.queues in
+    subst (λ (pages : Pages). IsOver (view_of (tables_made c.args.config c.args.peer c.in-Ok-open_tables.ledger c.in-Ok-open_tables.records c.in-Ok-open_tables.queues.items)) pages) (sym c.in-Ok-open_tables.ensures.pages) made.over

@@ -1,19 +1,25 @@
 use Rattle.std.proofs.Common.{rules, ◌≡◌, ◌∙◌, [], ap, subst, sym}
 use Rattle.machine_model.specs.After.{after_reset}
 use Rattle.page_memory.specs.Pages.{Pages}
-use Rattle.host_core.proofs.{Identifiers.{host_of, over_pages}, Openings.whole_at, Resets.{halves-renewed, places-renewed, view-reset, whole-reset}}
+use Rattle.host_core.proofs.{Identifiers.{host_of, over_pages}, Openings.whole_at, Resets.{claims-renewed, halves-renewed, places-renewed, view-reset, whole-reset}}
 use Rattle.host_core.specs.{Alone.{HostView, alone}, Laws.shown, Parts.tables_of}
-use Rattle.host_core.specs.{Resetting.{tables_reset, with_io_queues_gone, with_records_reset, HasPlaces, ListHalves}, Tables.{Tables, view_of}, Whole.IsWhole}
+use Rattle.host_core.specs.{Resetting.{tables_reset, with_io_queues_gone, with_records_reset, HasClaims, HasPlaces, ListHalves}, Tables.{Tables, view_of}, Whole.IsWhole}
 use Rattle.host_core.proofs.host.Host.reset.Goals as goal
 
 pub renew_admin-requires : goal.renew_admin-requires
 renew_admin-requires g c = whole_at (tables_of c.self.inside.parts []) c.args.self.now c.args.store.now.pages c.self.view_is c.self.invariant c.requires
 
-pub reset_commands-requires : goal.reset_commands-requires
-reset_commands-requires g c =
+pub reset_commands-requires-clause-places : goal.reset_commands-requires-clause-places
+reset_commands-requires-clause-places g c =
     let t : Tables = tables_of c.self.inside.parts c.args.store.now.pages in
     let w : IsWhole t = whole_at (tables_of c.self.inside.parts []) c.args.self.now c.args.store.now.pages c.self.view_is c.self.invariant c.requires in
     subst HasPlaces (sym (ap (λ (u : Tables). over_pages u []) c.renew_admin.ensures.renewed)) (places-renewed t [] w)
+
+pub reset_commands-requires-clause-claims : goal.reset_commands-requires-clause-claims
+reset_commands-requires-clause-claims g c =
+    let t : Tables = tables_of c.self.inside.parts c.args.store.now.pages in
+    let w : IsWhole t = whole_at (tables_of c.self.inside.parts []) c.args.self.now c.args.store.now.pages c.self.view_is c.self.invariant c.requires in
+    subst HasClaims (sym (ap (λ (u : Tables). over_pages u []) c.renew_admin.ensures.renewed)) (claims-renewed t [] w)
 
 pub lose_queues-requires : goal.lose_queues-requires
 lose_queues-requires g c =

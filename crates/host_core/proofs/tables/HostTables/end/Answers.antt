@@ -1,16 +1,40 @@
-use Rattle.std.proofs.Common.{[], Some, length, ap, sym, subst, ◌∙◌}
-use Rattle.host_core.{proofs.Reaps.{admin-work, answered-claims, heard-many, looks, meant-many, over-many, reaps-admin, reaps-done}, specs.Halves.HasMeant}
-use Rattle.host_core.{specs.{Parts.tables_of, Reaping.{meant, over, Answered}, Tables.Tables}, proofs.{QueueLists.completion-inside, Reaping.over-has}}
+use Rattle.std.proofs.Common.{ℕ, [], Some, length, ap, sym, subst, ◌∙◌}
+use Rattle.entry_codec.specs.declared.completion.ComEntry.{ComEntry}
+use Rattle.machine_model.specs.Step.{reaped_as}
+use Rattle.host_core.{proofs.Reaps.{Looks, admin-work, answered-claims, heard-many, looks, meant-many, over-many, reaps-admin, reaps-done}, specs.Halves.HasMeant}
+use Rattle.host_core.{specs.{Parts.tables_of, Reaping.{meant, over, Answered, ReapsTo}, Tables.Tables}, proofs.{QueueLists.completion-inside, Reaping.over-has}}
+use Rattle.host_core.proofs.tables.HostTables.end.Goals.{in-None, in-Some}
 use Rattle.host_core.proofs.tables.HostTables.end.Goals as goal
 
-pub returns-in-None-clause-reaps : goal.returns-in-None-clause-reaps
-returns-in-None-clause-reaps g c = λ pages w seen.
+pub returns-clause-reaps : goal.returns-clause-reaps
+returns-clause-reaps g c = λ pages w seen.
     let t : Tables = tables_of c.args.self.now pages in
-    let answered = subst (λ kind. Answered t c.args.q c.args.entry kind) c.in-None.is (c.requires.answered pages) in
-    reaps-done t (tables_of c.hold_command.new.self pages) w c.args.q c.args.entry (looks t c.args.q (Some c.args.entry) c.requires.there seen) answered (c.hold_command.ensures pages)
+    let q : ℕ = c.args.q in
+    let e : ComEntry = c.args.entry in
+    let at : Looks t q (Some e) = looks t q (Some e) c.requires.there seen in
+    let reaps : ReapsTo t q (reaped_as q e) (tables_of c.match-kind.self pages) =
+    elim c.match-kind.branch [
+      | in-None b ↦
+          let answered = subst (λ kind. Answered t q e kind) b.in-None.is (c.requires.answered pages) in
+          reaps-done t (tables_of c.match-kind.self pages) w q e at answered (ap (λ parts. tables_of parts pages) b.self-is ∙ b.hold_command.ensures pages)
+      | in-Some b ↦
+          let answered = subst (λ kind. Answered t q e kind) b.in-Some.is (c.requires.answered pages) in
+          reaps-admin t (tables_of c.match-kind.self pages) w q e b.in-Some.kind at answered
+          (ap (λ parts. tables_of parts pages) b.self-is ∙ (b.apply.ensures pages ∙ ap (meant b.in-Some.kind e.status) (b.end_command.ensures pages)))
+    ] in
+    subst (λ found. ReapsTo t q found (tables_of c.match-kind.self pages)) (sym c.told.ensures) reaps
 
-pub returns-in-None-clause-many : goal.returns-in-None-clause-many
-returns-in-None-clause-many g c = ap (λ (u : Tables). length u.queues) (c.hold_command.ensures []) ∙ heard-many (tables_of c.args.self.now []) c.args.q c.args.entry.sqhd
+pub returns-clause-many : goal.returns-clause-many
+returns-clause-many g c =
+    let t : Tables = tables_of c.args.self.now [] in
+    let e : ComEntry = c.args.entry in
+    elim c.match-kind.branch [
+      | in-None b ↦ ap (λ parts. length parts.queues.items) b.self-is ∙ (ap (λ (u : Tables). length u.queues) (b.hold_command.ensures []) ∙ heard-many t c.args.q e.sqhd)
+      | in-Some b ↦
+          ap (λ parts. length parts.queues.items) b.self-is
+          ∙ (ap (λ (u : Tables). length u.queues) (b.apply.ensures [] ∙ ap (meant b.in-Some.kind e.status) (b.end_command.ensures []))
+          ∙ (meant-many (over c.args.q e.sqhd e.cid t) b.in-Some.kind e.status ∙ over-many t c.args.q e.sqhd e.cid))
+    ]
 
 pub end_command-requires-clause-claimed : goal.end_command-requires-clause-claimed
 end_command-requires-clause-claimed g c =
@@ -22,19 +46,6 @@ apply-requires g c =
     let answered = subst (λ kind. Answered t c.args.q c.args.entry kind) c.in-Some.is (c.requires.answered []) in
     subst (λ (u : Tables). HasMeant c.in-Some.kind u) (sym (c.end_command.ensures []))
     (over-has t c.requires.host c.args.q c.args.entry c.in-Some.kind answered.entry answered.was (admin-work answered.entry.work c.in-Some.kind answered.means))
-
-pub returns-in-Some-clause-reaps : goal.returns-in-Some-clause-reaps
-returns-in-Some-clause-reaps g c = λ pages w seen.
-    let t : Tables = tables_of c.args.self.now pages in
-    let answered = subst (λ kind. Answered t c.args.q c.args.entry kind) c.in-Some.is (c.requires.answered pages) in
-    reaps-admin t (tables_of c.apply.new.self pages) w c.args.q c.args.entry c.in-Some.kind (looks t c.args.q (Some c.args.entry) c.requires.there seen) answered
-    (c.apply.ensures pages ∙ ap (meant c.in-Some.kind c.args.entry.status) (c.end_command.ensures pages))
-
-pub returns-in-Some-clause-many : goal.returns-in-Some-clause-many
-returns-in-Some-clause-many g c =
-    let t : Tables = tables_of c.args.self.now [] in
-    ap (λ (u : Tables). length u.queues) (c.apply.ensures [] ∙ ap (meant c.in-Some.kind c.args.entry.status) (c.end_command.ensures []))
-    ∙ (meant-many (over c.args.q c.args.entry.sqhd c.args.entry.cid t) c.in-Some.kind c.args.entry.status ∙ over-many t c.args.q c.args.entry.sqhd c.args.entry.cid)
 
 pub hold_command-requires-clause-head : goal.hold_command-requires-clause-head
 hold_command-requires-clause-head g c = (c.requires.answered []).head

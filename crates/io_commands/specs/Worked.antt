@@ -1,0 +1,7 @@
+-- Admin commands of the caller's own, worked.
+use Rattle.std.specs.Prelude.{ℕ}
+use Rattle.io_commands.specs.declared.admin.{AdminCommand.AdminCommand, PageUse.PageUse}
+
+-- a command with an opcode, a use of a page and a Command Dword 10
+abbrev pub command : ℕ → PageUse → ℕ → AdminCommand
+command opcode page cdw10 = record { opcode = opcode; page = page; cdw10 = cdw10; cdw11 = 0; cdw12 = 0; cdw13 = 0; cdw14 = 0; cdw15 = 0 }
