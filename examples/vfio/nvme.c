@@ -317,7 +317,7 @@ void nvme_resume(struct nvme *nvme) {
 /* Commands -------------------------------------------------------------------------------------------------------------------------------------------------- */
 
 uint32_t nvme_reserve(struct nvme *nvme, uint16_t q, uint32_t kind, uint64_t slba, uint32_t blocks, const nvmesgl_piece *pieces, size_t count, uint16_t *cid) {
-    nvmesgl_request request = {.size = sizeof request, .kind = kind, .nsid = nvme->options.nsid, .slba = slba, .blocks = blocks, .block_bytes = nvme->block};
+    nvmesgl_request request = {.size = sizeof request, .kind = kind, .nsid = nvme->options.nsid, .flags = nvme->flags, .slba = slba, .blocks = blocks, .block_bytes = nvme->block};
     nvmesgl_answer answer;
     uint32_t code = nvmehost_reserve_request(&nvme->host, q, &request, pieces, count, 0, &answer);
     *cid = answer.cid;

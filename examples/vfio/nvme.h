@@ -33,6 +33,7 @@ struct nvme {
     unsigned stride;        /* of the doorbells: CAP.DSTRD */
     double patience;        /* seconds that the controller may take to start and to stop */
     unsigned long admin_commands;
+    uint32_t flags; /* of each command that is reserved: enum nvmesgl_flag, added up */
     nvmehost_run runs[NVME_MOST_RUNS];
 
     /* What Identify said. */

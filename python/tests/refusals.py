@@ -5,9 +5,9 @@ import pytest
 from nvmesgl import Refused
 
 
-def refused(code, call, *arguments):
+def refused(code, call, *arguments, **named):
     """The refusal of a call, which has this code."""
     with pytest.raises(Refused) as raised:
-        call(*arguments)
+        call(*arguments, **named)
     assert raised.value.code == code, raised.value
     return raised.value
