@@ -20,10 +20,10 @@ const OPTIONS: &str = "# options: --pages 20 --entries 17 --blocks 16\n";
 const STEP: usize = 16;
 
 /// The smallest heap in which a bench opens.
-const OPENS: usize = 106_176;
+const OPENS: usize = 107_712;
 
 /// The smallest heap in which the commands are carried through.
-const CARRIES: usize = 123_424;
+const CARRIES: usize = 124_960;
 
 /// A verb for each command, and what it answers.
 fn put_each(text: &mut String, verb: &str, answer: &str) -> Result<(), AllocError> {
