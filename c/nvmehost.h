@@ -198,7 +198,7 @@ uint32_t nvmehost_submit(nvmehost *, uint16_t q, uint16_t cid, nvmesgl_answer *)
 uint32_t nvmehost_cancel(nvmehost *, uint16_t q, uint16_t cid, nvmesgl_answer *) NVMESGL_CALL(1, 4);
 /* Collects a command that has ended, by its ticket: answer.sct and answer.sc, what its completion hints at, and its answer.tag. Its pages are out of the pool. Refused: NO_VALUE, NOT_YET, MEMORY. */
 uint32_t nvmehost_collect(nvmehost *, uint16_t q, uint16_t cid, nvmesgl_answer *) NVMESGL_CALL(1, 4);
-/* Gathers the bytes of a finished Read into the front of a buffer: answer.bytes; none of a Write or a Compare.
+/* Gathers the bytes that a finished Read or admin command brought into the front of a buffer: answer.bytes; none of another.
  * Refused: NO_VALUE, MEMORY, TOO_SHORT (the buffer stays as it was). */
 uint32_t nvmehost_gather(nvmehost *, uint16_t q, uint16_t cid, uint8_t *buffer, size_t buffer_len, nvmesgl_answer *) NVMESGL_CALL(1, 6);
 /* Releases a finished command: its pages and its identifier are free. Refused: NO_VALUE. */
@@ -211,7 +211,7 @@ uint32_t nvmehost_release(nvmehost *, uint16_t q, uint16_t cid, nvmesgl_answer *
  * short), nvmehost_fill, nvmehost_build and nvmehost_submit are refused for, and MEMORY for a tag that is not 0; nothing of the command is left then: one that was reserved is cancelled. */
 uint32_t nvmehost_submit_iov(nvmehost *, uint16_t q, uint32_t kind, uint64_t slba, const nvmesgl_iovec *buffers, size_t buffer_count, uint64_t tag,
                              nvmesgl_answer *) NVMESGL_CALL(1, 8);
-/* Gathers the bytes of a finished Read into the buffers, one after the other: answer.bytes; none of a Write or a Compare.
+/* Gathers the bytes that a finished Read or admin command brought into the buffers, one after the other: answer.bytes; none of another.
  * Refused: NO_VALUE, TOO_SHORT (the buffers stay as they were), MEMORY. */
 uint32_t nvmehost_gather_iov(nvmehost *, uint16_t q, uint16_t cid, const nvmesgl_iovec *buffers, size_t buffer_count, nvmesgl_answer *) NVMESGL_CALL(1, 6);
 /* Sends an Abort of a submitted command on queue 0: answer.cid. It is not rung.

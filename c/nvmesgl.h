@@ -130,7 +130,7 @@ enum nvmesgl_code {
     NVMESGL_BAD_COUNT = 43,
     /* Pieces that count are not the bytes of the blocks. */
     NVMESGL_LENGTH_MISMATCH = 44,
-    /* A Read is not filled. */
+    /* A Read is not filled, nor an admin command that brings data. */
     NVMESGL_NOT_A_SOURCE = 45,
     /* There are more bytes than the data pieces take. */
     NVMESGL_WRONG_LENGTH = 46,

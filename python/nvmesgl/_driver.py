@@ -79,7 +79,7 @@ class Driver(Opened):
         return self._collected()
 
     def gather(self, q: int, cid: int) -> bytes:
-        """The bytes of a finished Read; none of a Write or a Compare."""
+        """The bytes of a finished Read, or of an admin command that brought data; none of another."""
         code = self._code("gather", q, cid, self._gathered, len(self._gathered))
         if code == Code.TOO_SHORT:
             self._gathered = (c_uint8 * self._answer.bytes)()
