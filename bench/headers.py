@@ -1,6 +1,7 @@
 """The part `headers` of bench/peers: what the shell traces of arbitrary commands, and where libnvme's headers find the same fields in the same bytes.
 
-The first byte of each field that `admin_commands::identify` reads is compared with the offset of its member in libnvme's structs.
+The first byte of each field that `admin_commands::identify` reads is compared with the offset of its member in libnvme's structs, and so are the members of a range of blocks
+in c/nvmesgl.h, and the bytes that `io_commands::BlockRange::to_bytes` writes.
 
 An entry lies in memory as `struct nvme_passthru_cmd` does up to its time limit: the address of that struct's data is the first word of SGL1, and the length of its
 metadata the word behind. A completion's status is taken apart by `nvme_status_code_type` and `nvme_status_code`.
@@ -48,6 +49,9 @@ MEMBERS = {
     "namespace": ("nvme_id_ns", {"blocks": "nsze", "last_format": "nlbaf", "format_number": "flbas", "format_of": "lbaf"}),
 }
 
+# The members of `nvmesgl_range`, and those of libnvme's `struct nvme_dsm_range`.
+RANGE = {"attributes": "cattr", "blocks": "nlb", "slba": "slba"}
+
 
 def compiled(text, lines=""):
     """What a C program over libnvme's headers prints, fed with lines; none where there are no headers."""
@@ -82,6 +86,39 @@ def identified():
             if not good:
                 print(f"headers: identify: {function} does not begin where {member} does, at {offset}")
     return alike, whole
+
+
+def first_bytes_of_a_range():
+    """The first byte of each member in what `BlockRange::to_bytes` writes, and how many bytes that is, as its source says it."""
+    with open(os.path.join(ROOT, "crates", "io_commands", "src", "range.rt"), encoding="utf-8") as file:
+        body = re.search(r"fn to_bytes\(.*?\n    }\n", file.read(), re.DOTALL).group(0)
+    names = {member: re.search(rf"let (\w+) = self\.{member}\.to_le_bytes", body).group(1) for member in ("blocks", "slba")}
+    written = re.search(r"\[\s*(0,[^;]*?),?\s*\]\s*}", body).group(1).split(", ")
+    return {"attributes": written.index("0"), **{member: written.index(f"{name}[0]") for member, name in names.items()}, "": len(written)}
+
+
+def ranged():
+    """How many members of a range begin where libnvme's struct has them, in the C header and in what is written, and how many there are; none where there are no headers."""
+    members = "".join(f"    TELL(offsetof(nvmesgl_range, {here}), offsetof(struct nvme_dsm_range, {there}));\n" for here, there in RANGE.items())
+    lines = compiled(f"""#include <libnvme.h>
+#include "{ROOT}/c/nvmesgl.h"
+#include <stdio.h>
+#define TELL(here, there) printf("%zu %zu\\n", here, there)
+int main(void) {{
+{members}    TELL(sizeof(nvmesgl_range), sizeof(struct nvme_dsm_range));
+    return 0;
+}}
+""")
+    if lines is None:
+        return None
+    alike, written = 0, first_bytes_of_a_range()
+    for member, line in zip([*RANGE, ""], lines):
+        here, there = map(int, line.split())
+        good = here == there == written[member]
+        alike += good
+        if not good:
+            print(f"headers: range: {member or 'the end'} is at {here} in C and at {written[member]} of what is written, and at {there} in libnvme")
+    return alike, len(lines)
 
 
 def of_entry(told, words):
@@ -120,6 +157,7 @@ def headers(program, count=1000):
         if not good:
             print(f"headers: {kind}: {told} is told, {found} is read")
     alike["field of Identify"], whole["field of Identify"] = identified()
+    alike["member of a range, and its end"], whole["member of a range, and its end"] = ranged()
     for kind in whole:
         print(f"headers: {kind}: {alike[kind]} of {whole[kind]} as libnvme's headers have them")
     return len(lines) == len(rows) and alike == whole

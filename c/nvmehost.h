@@ -188,7 +188,7 @@ uint32_t nvmehost_reserve_request(nvmehost *, uint16_t q, const nvmesgl_request 
  * Set Features of the Host Memory Buffer). Refused: BAD_SIZE, BAD_OPTION, NO_KIND for an opcode above 255 or another use of a page, CROSSES_PAGE for more bytes than a page has,
  * LENGTH_MISMATCH for a page without bytes or bytes without a page, HOSTS_OWN, NO_IDENTIFIER, NO_PAGES, MEMORY. */
 uint32_t nvmehost_reserve_admin(nvmehost *, const nvmesgl_admin *, uint64_t tag, nvmesgl_answer *) NVMESGL_CALL(1, 2, 4);
-/* Fills the draft of a Write or a Compare, or of an admin command whose data is taken, with the bytes, and zeros after them. Refused: NO_VALUE, NOT_A_SOURCE, WRONG_LENGTH. */
+/* Fills the draft of a Write, a Compare or a Deallocate, or of an admin command whose data is taken, with the bytes, and zeros after them. Refused: NO_VALUE, NOT_A_SOURCE, WRONG_LENGTH. */
 uint32_t nvmehost_fill(nvmehost *, uint16_t q, uint16_t cid, const uint8_t *bytes, size_t byte_count, nvmesgl_answer *) NVMESGL_CALL(1, 6);
 /* Lays the draft's chain. Refused: NO_VALUE, MEMORY. */
 uint32_t nvmehost_build(nvmehost *, uint16_t q, uint16_t cid, nvmesgl_answer *) NVMESGL_CALL(1, 4);
@@ -205,8 +205,8 @@ uint32_t nvmehost_gather(nvmehost *, uint16_t q, uint16_t cid, uint8_t *buffer, 
 uint32_t nvmehost_release(nvmehost *, uint16_t q, uint16_t cid, nvmesgl_answer *) NVMESGL_CALL(1, 4);
 /* Several of these calls in one, over the bytes of several buffers, which are as one: the bytes of the first, then those of the second, and so on. All together they are 1 to
  * 2,048 whole blocks of 512 bytes; a data page each takes 4,096 of them, and the last what is left. Reserves a command, fills it with the bytes where it is a Write or a Compare,
- * builds it and submits it (answer: as nvmehost_reserve). It is not rung. Of a Read only the lengths are looked at: its bytes are gathered once it has ended. Of the commands
- * that move no data a Flush alone can be sent so, with no byte. The tag is that of nvmehost_reserve_tagged.
+ * builds it and submits it (answer: as nvmehost_reserve). It is not rung. Of a Read only the lengths are looked at: its bytes are gathered once it has ended. Of the other
+ * kinds a Flush alone can be sent so, with no byte. The tag is that of nvmehost_reserve_tagged.
  * Refused: NO_KIND, BAD_COUNT for more than 1,048,576 bytes, and then what nvmehost_reserve (BAD_COUNT for fewer than 512 bytes, LENGTH_MISMATCH where the last block is cut
  * short), nvmehost_fill, nvmehost_build and nvmehost_submit are refused for, and MEMORY for a tag that is not 0; nothing of the command is left then: one that was reserved is cancelled. */
 uint32_t nvmehost_submit_iov(nvmehost *, uint16_t q, uint32_t kind, uint64_t slba, const nvmesgl_iovec *buffers, size_t buffer_count, uint64_t tag,
@@ -259,7 +259,7 @@ uint32_t nvmehost_counts(nvmehost *, nvmehost_pages *) NVMESGL_CALL(1, 2);
 uint32_t nvmehost_owner(nvmehost *, uint32_t page, nvmesgl_page_owner *) NVMESGL_CALL(1, 3);
 /* What the host knows of a queue. Refused: NO_QUEUE. */
 uint32_t nvmehost_look(nvmehost *, uint16_t q, nvmehost_queue *) NVMESGL_CALL(1, 3);
-/* What a device may do with a page now (enum nvmehost_right), whatever it wrote: it reads submission rings, and the chain and the data of each Write and Compare that is submitted and not yet
+/* What a device may do with a page now (enum nvmehost_right), whatever it wrote: it reads submission rings, and the chain and the data of each Write, Compare and Deallocate that is submitted and not yet
  * reaped; it writes completion rings, and the data of each Read that is; and nothing else. Of a page outside the pool: NVMEHOST_NOTHING. */
 uint32_t nvmehost_may(nvmehost *, uint32_t page, uint32_t *right) NVMESGL_CALL(1, 3);
 /* The pages of a command as runs, first of its data and then of its chain, with what a device may do with them now; none where no such command is outstanding. How many runs were laid into the

@@ -33,9 +33,9 @@ extern "C" {
 /* Version --------------------------------------------------------------------------------------------------------- */
 
 /* The version of this header, and of the library that is linked. Versions 0.N may differ in any call and struct. */
-#define NVMESGL_VERSION "0.8.0"
+#define NVMESGL_VERSION "0.9.0"
 #define NVMESGL_VERSION_MAJOR 0
-#define NVMESGL_VERSION_MINOR 8
+#define NVMESGL_VERSION_MINOR 9
 #define NVMESGL_VERSION_PATCH 0
 const char *nvmesgl_version(void);
 
@@ -126,9 +126,9 @@ enum nvmesgl_code {
     NVMESGL_EMPTY_PIECE = 41,
     /* A data piece that passes the end of its page. */
     NVMESGL_CROSSES_PAGE = 42,
-    /* No blocks, or more than 1 MiB of them. */
+    /* No blocks, or more than 1 MiB of them; of a Deallocate no ranges, or more than 256; or blocks of a Flush. */
     NVMESGL_BAD_COUNT = 43,
-    /* Pieces that count are not the bytes of the blocks. */
+    /* Pieces that count are not the bytes of the blocks, or of the ranges. */
     NVMESGL_LENGTH_MISMATCH = 44,
     /* A Read is not filled, nor an admin command that brings data. */
     NVMESGL_NOT_A_SOURCE = 45,
@@ -183,8 +183,17 @@ typedef struct nvmesgl_options {
 
 #define NVMESGL_OPTIONS {sizeof(nvmesgl_options), 16, 1, 4, 256, 64, {0}}
 
-/* The last three move no data, so they have no piece, and a Flush has neither blocks nor a first one. The modelled controller does not have them: 0:01. */
-enum nvmesgl_kind { NVMESGL_READ = 0, NVMESGL_WRITE = 1, NVMESGL_COMPARE = 2, NVMESGL_WRITE_ZEROES = 3, NVMESGL_VERIFY = 4, NVMESGL_FLUSH = 5 };
+/* Numbers 3 to 5 have no data, so they have no piece, and a Flush has neither blocks nor a first one. A Deallocate is Dataset Management with the attribute Deallocate: its data is ranges of
+ * blocks that are not needed any more, each an nvmesgl_range. The modelled controller does not have numbers 3 to 6: 0:01. */
+enum nvmesgl_kind {
+    NVMESGL_READ = 0,
+    NVMESGL_WRITE = 1,
+    NVMESGL_COMPARE = 2,
+    NVMESGL_WRITE_ZEROES = 3,
+    NVMESGL_VERIFY = 4,
+    NVMESGL_FLUSH = 5,
+    NVMESGL_DEALLOCATE = 6
+};
 
 enum nvmesgl_piece_kind { NVMESGL_PIECE = 0, NVMESGL_BUCKET = 1 };
 
@@ -195,7 +204,15 @@ typedef struct nvmesgl_piece {
     uint32_t kind; /* enum nvmesgl_piece_kind */
 } nvmesgl_piece;
 
-/* Flags of a command that names blocks (NVM Command Set Specification 1.0, section 3.2, CDW12). A Flush has none. */
+/* A range of blocks, laid out as the standard has it (NVM Command Set Specification 1.0, "Dataset Management", Range Definition), on a little-endian machine. An array of 1 to 256 of them is
+ * the data of a Deallocate. */
+typedef struct nvmesgl_range {
+    uint32_t attributes; /* Context Attributes; 0 says nothing */
+    uint32_t blocks;     /* how many blocks */
+    uint64_t slba;       /* the first block */
+} nvmesgl_range;
+
+/* Flags of a command that names blocks in its entry (NVM Command Set Specification 1.0, section 3.2, CDW12). A Flush and a Deallocate have none. */
 enum nvmesgl_flag {
     NVMESGL_FUA = 1,          /* Force Unit Access: the command ends once its data is in non-volatile media, or comes from there */
     NVMESGL_LIMITED_RETRY = 2 /* the controller makes only a limited effort to try again where it fails */
@@ -208,8 +225,8 @@ typedef struct nvmesgl_request {
     uint32_t kind;   /* enum nvmesgl_kind */
     uint32_t nsid;   /* the namespace; where it is 0, none is named, and it is namespace 1 */
     uint32_t flags;  /* enum nvmesgl_flag, added up */
-    uint64_t slba;   /* the first block */
-    uint32_t blocks; /* how many blocks */
+    uint64_t slba;   /* the first block; 0 of a Flush and of a Deallocate, whose entries name none */
+    uint32_t blocks; /* how many blocks, or, of a Deallocate, ranges: its pieces are 16 bytes for each */
     uint32_t block_bytes; /* how many bytes a block of the namespace has: 512, 1024, 2048 or 4096; where it is 0, 512 */
     uint32_t reserved[4];
 } nvmesgl_request;
@@ -336,7 +353,7 @@ uint32_t nvmesgl_reserve(nvmesgl *, uint16_t q, uint32_t kind, uint64_t slba, ui
  * does the same with a flag as without. Its blocks have 512 bytes: OTHER_BLOCKS, before NO_IDENTIFIER, where a request says otherwise. Refused: BAD_SIZE, BAD_OPTION, and
  * then as nvmesgl_reserve. */
 uint32_t nvmesgl_reserve_request(nvmesgl *, uint16_t q, const nvmesgl_request *, const nvmesgl_piece *pieces, size_t piece_count, nvmesgl_answer *) NVMESGL_CALL(1, 3, 6);
-/* Fills the draft of a Write or a Compare with the bytes, and zeros after them; a draft that was built may be filled again.
+/* Fills the draft of a Write, a Compare or a Deallocate with the bytes, and zeros after them; a draft that was built may be filled again.
  * Refused: NO_VALUE, NOT_A_SOURCE, WRONG_LENGTH, MEMORY. */
 uint32_t nvmesgl_fill(nvmesgl *, uint16_t q, uint16_t cid, const uint8_t *bytes, size_t byte_count, nvmesgl_answer *) NVMESGL_CALL(1, 6);
 /* Lays the draft's chain. Refused: NO_VALUE, MEMORY. */
@@ -348,7 +365,7 @@ uint32_t nvmesgl_cancel(nvmesgl *, uint16_t q, uint16_t cid, nvmesgl_answer *) N
 /* Collects a command that has ended, by its ticket: answer.sct and answer.sc, and what its completion hints at (answer.retry_delay, answer.more,
  * answer.do_not_retry). Refused: NO_VALUE, NOT_YET, MEMORY. */
 uint32_t nvmesgl_collect(nvmesgl *, uint16_t q, uint16_t cid, nvmesgl_answer *) NVMESGL_CALL(1, 4);
-/* Gathers the bytes of a finished Read into the front of a buffer: answer.bytes; none of a Write or a Compare. What a Read that failed did not bring is zeros.
+/* Gathers the bytes of a finished Read into the front of a buffer: answer.bytes; none of another. What a Read that failed did not bring is zeros.
  * Refused: NO_VALUE, MEMORY, TOO_SHORT (the buffer stays as it was). */
 uint32_t nvmesgl_gather(nvmesgl *, uint16_t q, uint16_t cid, uint8_t *buffer, size_t buffer_len, nvmesgl_answer *) NVMESGL_CALL(1, 6);
 /* Releases a finished command: its pages and its identifier are free. Refused: NO_VALUE. */

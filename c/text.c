@@ -44,9 +44,9 @@ const char *nvmesgl_text(uint32_t code) {
     case NVMESGL_TOO_MANY_PIECES: return "a request has at most 1,024 pieces";
     case NVMESGL_EMPTY_PIECE: return "a piece has length 0";
     case NVMESGL_CROSSES_PAGE: return "a data piece passes the end of its page";
-    case NVMESGL_BAD_COUNT: return "a command has 1 block to 1 MiB of them, and a Flush none";
+    case NVMESGL_BAD_COUNT: return "a command has 1 block to 1 MiB of them, a Deallocate 1 to 256 ranges, and a Flush none";
     case NVMESGL_HOSTS_OWN: return "the host keeps this admin command to itself";
-    case NVMESGL_LENGTH_MISMATCH: return "the lengths of the pieces are not the bytes of the blocks";
+    case NVMESGL_LENGTH_MISMATCH: return "the lengths of the pieces are not the bytes of the blocks or ranges";
     case NVMESGL_NOT_A_SOURCE: return "a Read is not filled";
     case NVMESGL_WRONG_LENGTH: return "there are more bytes than the data pieces take";
     case NVMESGL_BAD_PIECE: return "the kind of a piece is neither data nor a bucket";

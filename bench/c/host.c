@@ -137,17 +137,17 @@ static uint32_t arbitrary(void) {
     case 0:
     case 1: {
         nvmesgl_piece pieces[4];
-        uint32_t blocks = below(3);
+        uint32_t blocks = below(3), kind = below(8), each = kind == NVMESGL_DEALLOCATE ? sizeof(nvmesgl_range) : 512;
         size_t count = below(4);
-        for (size_t i = 0; i < count; i++) pieces[i] = (nvmesgl_piece){8 * below(500), 512 * below(3), below(5) == 0};
-        if (below(3) != 0) pieces[0] = (nvmesgl_piece){0, 512 * blocks, NVMESGL_PIECE}, count = 1;
+        for (size_t i = 0; i < count; i++) pieces[i] = (nvmesgl_piece){8 * below(500), each * below(3), below(5) == 0};
+        if (below(3) != 0) pieces[0] = (nvmesgl_piece){0, each * blocks, NVMESGL_PIECE}, count = 1;
         if (below(3) == 0) {
-            nvmesgl_request request = {sizeof request - (below(20) == 0), below(7), below(3), below(5), below(16), blocks, below(4) == 0 ? 256u << below(6) : 0, {0}};
+            nvmesgl_request request = {sizeof request - (below(20) == 0), kind, below(3), below(5), below(16), blocks, below(4) == 0 ? 256u << below(6) : 0, {0}};
             if (below(20) == 0) request.reserved[below(4)] = 1 + below(9);
             return nvmehost_reserve_request(&host, q, &request, pieces, count, below(3), &answer);
         }
-        if (below(2) == 0) return nvmehost_reserve_tagged(&host, q, below(7), below(16), blocks, pieces, count, below(3), &answer);
-        return nvmehost_reserve(&host, q, below(7), below(16), blocks, pieces, count, &answer);
+        if (below(2) == 0) return nvmehost_reserve_tagged(&host, q, kind, below(16), blocks, pieces, count, below(3), &answer);
+        return nvmehost_reserve(&host, q, kind, below(16), blocks, pieces, count, &answer);
     }
     case 2:
     case 3: memset(bytes, 7, sizeof bytes); return nvmehost_fill(&host, q, cid, bytes, below(2) == 0 ? 512 : below(sizeof bytes), &answer);
@@ -215,7 +215,7 @@ static void asks(const nvmehost_options *options) {
         nvmehost_queue queue;
         uint32_t entry[16];
         /* Each is refused for the first that is wrong with it; then that is mended. */
-        wrong.size = turn, wrong.reserved[turn % 4] = 1u << turn, wrong.block_bytes = 256u << turn % 2 * 5, wrong.flags = 4u << turn | turn, wrong.kind = NVMESGL_FLUSH + 1 + turn;
+        wrong.size = turn, wrong.reserved[turn % 4] = 1u << turn, wrong.block_bytes = 256u << turn % 2 * 5, wrong.flags = 4u << turn | turn, wrong.kind = NVMESGL_DEALLOCATE + 1 + turn;
         for (unsigned i = 0; i < 7; i++) {
             if (nvmehost_reserve_request(&own, 9, &wrong, i < 6 ? &none : &piece, 1, 0, &answer) != codes[i]) fail("a request with a fault", i);
             if (i == 0) wrong.size = sizeof wrong;

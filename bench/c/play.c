@@ -96,7 +96,7 @@ static uint64_t number(void) {
 static uint32_t reserve(uint16_t q) {
     const char *kind = word();
     nvmesgl_request request = NVMESGL_REQUEST;
-    static const char *const kinds[] = {"read", "write", "compare", "write_zeroes", "verify", "flush"}; /* as enum nvmesgl_kind */
+    static const char *const kinds[] = {"read", "write", "compare", "write_zeroes", "verify", "flush", "deallocate"}; /* as enum nvmesgl_kind */
     while (strcmp(kinds[request.kind], kind) != 0) request.kind++;
     request.slba = number();
     request.blocks = (uint32_t)number();

@@ -7,8 +7,14 @@
 static unsigned queue(void) { return below(16) == 0 ? below(4) : 1 + below(2); }
 static unsigned command(void) { return below(16) == 0 ? below(6) : below(3); }
 
-/* The first three move data. */
-static const char *const kinds[] = {"read", "write", "compare", "write_zeroes", "verify", "flush"};
+/* The first three move data, the next three have none, and that of the last is ranges of blocks. */
+static const char *const kinds[] = {"read", "write", "compare", "write_zeroes", "verify", "flush", "deallocate"};
+enum { COMPARE = 2, FLUSH = 5, DEALLOCATE = 6 };
+
+static unsigned any_kind(void) { return below(8) == 0 ? COMPARE + 1 + below(4) : below(COMPARE + 1); }
+
+/* How many bytes of data its blocks have, or its ranges. */
+static unsigned data_of(unsigned kind, unsigned blocks) { return kind == DEALLOCATE ? 16 * blocks : kind > COMPARE ? 0 : 512 * blocks; }
 
 /* A namespace, a block size and flags after the pieces, now and then. */
 static void end_reserve(void) {
@@ -20,7 +26,7 @@ static void end_reserve(void) {
 }
 
 static void reserve(void) {
-    unsigned kind = below(8) == 0 ? 3 + below(3) : below(3), blocks = kind == 5 ? 0 : 1 + below(3), left = kind > 2 && below(8) != 0 ? 0 : 512 * blocks;
+    unsigned kind = any_kind(), blocks = kind == FLUSH ? 0 : 1 + below(3), left = below(8) == 0 ? 512 * blocks : data_of(kind, blocks);
     if (below(24) == 0) blocks = below(3000);
     printf("reserve %u %s %u %u", queue(), kinds[kind], below(8) == 0 ? below(80) : below(4), blocks);
     while (left != 0 && below(40) != 0) {
@@ -50,15 +56,15 @@ static int next(void) {
 
 /* A command of a queue through all its steps. */
 static void carry(void) {
-    unsigned q = 1 + below(2), cid = below(3), walks = 1 + below(6), kind = below(8) == 0 ? 3 + below(3) : below(3), blocks = kind == 5 ? 0 : 1 + below(3);
+    unsigned q = 1 + below(2), cid = below(3), walks = 1 + below(6), kind = any_kind(), blocks = kind == FLUSH ? 0 : 1 + below(3), data = data_of(kind, blocks);
     if (next()) {
         printf("reserve %u %s %u %u", q, kinds[kind], below(8) == 0 ? below(80) : below(4), blocks);
-        for (unsigned b = 0; kind < 3 && b < blocks; b++) printf(" %u+512", below(3584));
+        for (unsigned left = data; left != 0; left -= data / blocks) printf(" %u+%u", below(3584), data / blocks);
         end_reserve();
     }
-    if (kind != 0 && kind < 3 && next()) {
+    if (kind != 0 && data != 0 && next()) {
         printf("fill %u %u ", q, cid);
-        hex(1 + below(512 * blocks));
+        hex(1 + below(data));
     }
     static const char *const front[] = {"build", "submit"}, *const middle[] = {"ring", "fetch"}, *const back[] = {"collect", "gather", "release"};
     for (int k = 0; k < 2; k++)

@@ -14,6 +14,7 @@ int main(void) {
     STRUCT(nvmesgl_piece), FIELD(nvmesgl_piece, offset), FIELD(nvmesgl_piece, len), FIELD(nvmesgl_piece, kind), END;
     STRUCT(nvmesgl_request), FIELD(nvmesgl_request, size), FIELD(nvmesgl_request, kind), FIELD(nvmesgl_request, nsid), FIELD(nvmesgl_request, flags);
     FIELD(nvmesgl_request, slba), FIELD(nvmesgl_request, blocks), FIELD(nvmesgl_request, block_bytes), FIELD(nvmesgl_request, reserved), END;
+    STRUCT(nvmesgl_range), FIELD(nvmesgl_range, attributes), FIELD(nvmesgl_range, blocks), FIELD(nvmesgl_range, slba), END;
     STRUCT(nvmesgl_iovec), FIELD(nvmesgl_iovec, base), FIELD(nvmesgl_iovec, len), END;
     STRUCT(nvmesgl_answer), FIELD(nvmesgl_answer, state), FIELD(nvmesgl_answer, dw0), FIELD(nvmesgl_answer, need), FIELD(nvmesgl_answer, free);
     FIELD(nvmesgl_answer, data_pages), FIELD(nvmesgl_answer, chain_pages), FIELD(nvmesgl_answer, bytes), FIELD(nvmesgl_answer, touched);

@@ -11,6 +11,7 @@ STRUCTS = {
     "nvmesgl_pages": machine.Pages,
     "nvmesgl_piece": _library.CPiece,
     "nvmesgl_request": _library.CRequest,
+    "nvmesgl_range": _library.CRange,
     "nvmesgl_iovec": _library.IoVec,
     "nvmesgl_answer": _library.Answer,
     "nvmesgl_page_owner": _library.PageOwner,

@@ -204,6 +204,7 @@ static void identify_controller(struct nvme *nvme) {
     uint8_t mdts = data[77];
     nvme->most = mdts == 0 || mdts >= 8 ? MOST_BYTES : (uint32_t)NVME_PAGE << mdts;
     nvme->compares = (data[520] & 1) != 0;
+    nvme->deallocates = (data[520] & 4) != 0;
     nvme->grain = (data[536] & 3) == 2 ? 4 : 1;
     need((data[536] & 3) != 0, "the controller takes no lists (SGLs)");
 }

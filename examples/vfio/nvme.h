@@ -43,7 +43,8 @@ struct nvme {
     uint64_t blocks; /* of the namespace */
     uint32_t most;   /* bytes of a command at most */
     uint32_t grain;  /* bytes that each address and length of a list is a multiple of: 1 or 4 */
-    bool compares;   /* whether it has Compare */
+    bool compares;   /* whether it has Compare, */
+    bool deallocates; /* and Dataset Management */
 };
 
 /* Ends the program with the call's name and what the code says, unless the call was done. */

@@ -14,7 +14,7 @@ whole command had done by then. A handle may be used by any thread, by one at a 
 """
 
 from .machine import Completion, Counts, Machine
-from .words import Code, Collected, Hints, Kind, Owner, OwnerKind, Piece, Refused, Reserved, State, Status, Step, Walk
+from .words import BlockRange, Code, Collected, Hints, Kind, Owner, OwnerKind, Piece, Refused, Reserved, State, Status, Step, Walk
 
-__version__ = "0.8.0"
-__all__ = ["Code", "Collected", "Completion", "Counts", "Hints", "Kind", "Machine", "Owner", "OwnerKind", "Piece", "Refused", "Reserved", "State", "Status", "Step", "Walk"]
+__version__ = "0.9.0"
+__all__ = ["BlockRange", "Code", "Collected", "Completion", "Counts", "Hints", "Kind", "Machine", "Owner", "OwnerKind", "Piece", "Refused", "Reserved", "State", "Status", "Step", "Walk"]

@@ -49,7 +49,8 @@ class Driver(Opened):
     ) -> Reserved:
         """Reserves a command of `blocks` blocks from `slba` on, as a draft: `cid`, `data_pages`, `chain_pages`. Its pages are out of the
         pool until it is submitted. It is of namespace `nsid` (0 is 1), whose blocks have
-        `block_bytes` bytes (0 is 512), with the flags that are set."""
+        `block_bytes` bytes (0 is 512), with the flags that are set. Of a Deallocate `blocks` counts the ranges, its pieces are 16 bytes for
+        each, and neither `slba` nor a flag is in its entry."""
         request = request_of(kind, slba, blocks, nsid, block_bytes, force_unit_access, limited_retry)
         return self._reserved("reserve_request", q, byref(request), *lent_pieces(pieces))
 
@@ -58,7 +59,7 @@ class Driver(Opened):
         return Reserved(told.cid, told.data_pages, told.chain_pages)
 
     def fill(self, q: int, cid: int, content: Any) -> None:
-        """Fills the draft of a Write or a Compare with the bytes of any buffer, and zeros after them."""
+        """Fills the draft of a Write, a Compare or a Deallocate with the bytes of any buffer, and zeros after them."""
         self._call("fill", q, cid, *lent(content))
 
     def build(self, q: int, cid: int) -> None:

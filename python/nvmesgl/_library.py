@@ -6,7 +6,7 @@ import ctypes
 import functools
 import os
 import pathlib
-from ctypes import POINTER, Structure, c_bool, c_char_p, c_size_t, c_uint8, c_uint16, c_uint32, c_uint64, c_void_p
+from ctypes import POINTER, LittleEndianStructure, Structure, c_bool, c_char_p, c_size_t, c_uint8, c_uint16, c_uint32, c_uint64, c_void_p
 from typing import Any, Dict, Iterable, List, Tuple
 
 
@@ -147,6 +147,10 @@ class CAdmin(Structure):
         ("words", c_uint32 * 6),
         ("reserved", c_uint32),
     ]
+
+
+class CRange(LittleEndianStructure):
+    _fields_ = [("attributes", c_uint32), ("blocks", c_uint32), ("slba", c_uint64)]
 
 
 class Answer(Structure):

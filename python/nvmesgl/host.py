@@ -301,7 +301,8 @@ class Host(Driver):
     ) -> Reserved:
         """Reserves a command of `blocks` blocks from `slba` on, as a draft: `cid`, `data_pages`, `chain_pages`. Its pages are out of the
         pool until it is submitted. It is of namespace `nsid` (0 is 1), whose blocks have
-        `block_bytes` bytes (0 is 512), with the flags that are set. `reap`, `collect` and `poll` tell the tag, of 64 bits, when the command
+        `block_bytes` bytes (0 is 512), with the flags that are set. Of a Deallocate `blocks` counts the ranges, its pieces are 16 bytes for
+        each, and neither `slba` nor a flag is in its entry. `reap`, `collect` and `poll` tell the tag, of 64 bits, when the command
         has ended."""
         request = request_of(kind, slba, blocks, nsid, block_bytes, force_unit_access, limited_retry)
         return self._reserved("reserve_request", q, byref(request), *lent_pieces(pieces), tag)

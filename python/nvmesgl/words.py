@@ -5,9 +5,9 @@ from __future__ import annotations
 import enum
 from typing import Any, List, NamedTuple, Sequence, Tuple
 
-from ._library import library
+from ._library import CRange, fits, library
 
-__all__ = ["Code", "Collected", "Hints", "Kind", "Owner", "OwnerKind", "Piece", "Refused", "Reserved", "State", "Status", "Step", "Walk"]
+__all__ = ["BlockRange", "Code", "Collected", "Hints", "Kind", "Owner", "OwnerKind", "Piece", "Refused", "Reserved", "State", "Status", "Step", "Walk"]
 
 
 class Code(enum.IntEnum):
@@ -76,7 +76,7 @@ class PageUse(enum.IntEnum):
 
 
 class Kind(enum.IntEnum):
-    """Which I/O command."""
+    """Which I/O command. The data of a DEALLOCATE is ranges of blocks that are not needed any more (`BlockRange`)."""
 
     READ = 0
     WRITE = 1
@@ -84,6 +84,7 @@ class Kind(enum.IntEnum):
     WRITE_ZEROES = 3
     VERIFY = 4
     FLUSH = 5
+    DEALLOCATE = 6
 
 
 class State(enum.IntEnum):
@@ -118,6 +119,17 @@ class Piece(NamedTuple):
     offset: int
     len: int
     bucket: bool = False
+
+
+class BlockRange(NamedTuple):
+    """`blocks` blocks from `slba` on. Their bytes one after the other, of 1 to 256 ranges, are the data of a Deallocate."""
+
+    slba: int
+    blocks: int
+
+    def to_bytes(self) -> bytes:
+        """Its 16 bytes, as the NVM Command Set Specification has them: no Context Attributes, the number of blocks, the first block."""
+        return bytes(CRange(0, fits(self.blocks, 32), fits(self.slba, 64)))
 
 
 class Status(NamedTuple):

@@ -7,7 +7,7 @@ import struct
 
 import pytest
 
-from nvmesgl import Code, Hints, Kind, OwnerKind, Piece, State
+from nvmesgl import BlockRange, Code, Hints, Kind, OwnerKind, Piece, State
 from nvmesgl.host import PAGE_BYTES, Doorbell, Host, PageUse, Place, QueueState, Right, Rings, Run
 from refusals import refused
 
@@ -125,9 +125,48 @@ def test_a_namespace_and_flags():
                 device.ring(host.ring(1))
                 assert host.reap(1).tag == 9 and host.collect(1, cid) == (0, 0)
                 host.release(1, cid)
-        refused(Code.NO_KIND, host.reserve, 1, 6, 0, 1, [Piece(0, 512)])
+        refused(Code.NO_KIND, host.reserve, 1, 7, 0, 1, [Piece(0, 512)])
         with pytest.raises(ctypes.ArgumentError):
             host.reserve(1, Kind.READ, 0, 1, [Piece(0, 512)], nsid=-1)
+
+
+def test_a_range():
+    """Its bytes are the standard's: 4 of Context Attributes, 4 of the number of blocks, 8 of the first block."""
+    assert BlockRange(0x1112131415161718, 0x01020304).to_bytes() == bytes.fromhex("00000000 04030201 1817161514131211")
+    assert BlockRange(slba=(1 << 64) - 1, blocks=(1 << 32) - 1).to_bytes() == bytes(4) + b"\xff" * 12
+    for slba, blocks in ((1 << 64, 1), (-1, 1), (0, 1 << 32), (0, -1)):
+        with pytest.raises(ctypes.ArgumentError):
+            BlockRange(slba, blocks).to_bytes()
+
+
+@pytest.mark.parametrize(
+    "count, pieces, descriptor_type",
+    [(1, [Piece(0, 16)], 0x00), (3, [Piece(8, 48)], 0x00), (3, [Piece(4080, 16), Piece(0, 100, True), Piece(64, 32)], 0x30), (256, [Piece(0, 4096)], 0x00)],
+)
+def test_a_deallocate(count, pieces, descriptor_type):
+    """CDW10 has the number of ranges less one, CDW11 the attribute Deallocate (bit 2), and its pages the ranges' bytes; neither a first block nor a flag is in its entry."""
+    content = b"".join(BlockRange(8 * number, number + 1).to_bytes() for number in range(count))
+    with Host(pages=32, entries=8) as host:
+        device = Device(host)
+        device.rings[1], device.heads[1], device.tails[1] = host.rings(1), 0, (0, 1)
+        for wrong, code in ((0, Code.BAD_COUNT), (257, Code.BAD_COUNT), (count % 256 + 1, Code.LENGTH_MISMATCH)):
+            refused(code, host.reserve, 1, Kind.DEALLOCATE, 0, wrong, pieces)
+        at = host.rings(1).submission + 64 * host.queue(1).submission_tail
+        one = host.reserve(1, Kind.DEALLOCATE, 7, count, pieces, 9, nsid=2, block_bytes=4096, force_unit_access=True)
+        host.fill(1, one.cid, content)
+        host.build(1, one.cid)
+        host.submit(1, one.cid)
+        places = [host.data_place(1, one.cid, piece) for piece in range(one.data_pages)]
+        assert b"".join(host.read(4096 * place.page + place.offset, place.len) for place in places) == content
+        assert all(run.right == Right.READ for run in host.runs(1, one.cid))
+        entry = struct.unpack("<16I", host.read(at, 64))
+        assert entry[:6] == (0x4009 | one.cid << 16, 2, 0, 0, 0, 0) and entry[9] == descriptor_type << 24
+        assert entry[10:] == (count - 1, 4, 0, 0, 0, 0)
+        if one.chain_pages == 0:
+            assert entry[6:9] == (4096 * places[0].page + places[0].offset, 0, 16 * count)
+        device.ring(host.ring(1))
+        assert host.reap(1).tag == 9 and host.collect(1, one.cid) == (0, 0) and host.gather(1, one.cid) == b""
+        host.release(1, one.cid)
 
 
 def test_admin():
@@ -227,7 +266,7 @@ def test_commands_of_several_buffers():
         assert collected != (0, 0) and collected.tag == 9
         refused(Code.NO_QUEUE, host.poll, 1)
         refused(Code.NO_QUEUE, host.send, 1, Kind.READ, 0, [bytes(512)])
-        refused(Code.NO_KIND, host.send, 0, 6, 0, [])
+        refused(Code.NO_KIND, host.send, 0, 7, 0, [])
 
 
 def test_openings_that_are_refused():

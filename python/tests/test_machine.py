@@ -6,7 +6,7 @@ import pickle
 
 import pytest
 
-from nvmesgl import Code, Kind, Machine, OwnerKind, Piece, Refused, State
+from nvmesgl import BlockRange, Code, Kind, Machine, OwnerKind, Piece, Refused, State
 from nvmesgl.host import Host
 from refusals import refused
 
@@ -120,7 +120,7 @@ def test_a_namespace_and_flags():
                 one = machine.reserve(1, kind, 7, 1, [Piece(0, 512)], nsid=nsid, force_unit_access=True, limited_retry=True).cid
                 assert carry(machine, 1, one) == (0, 0)
                 machine.release(1, one)
-        refused(Code.NO_KIND, machine.reserve, 1, 6, 0, 1, [Piece(0, 512)])
+        refused(Code.NO_KIND, machine.reserve, 1, 7, 0, 1, [Piece(0, 512)])
         with pytest.raises(ctypes.ArgumentError):
             machine.reserve(1, Kind.READ, 0, 1, [Piece(0, 512)], nsid=1 << 32)
 
@@ -140,6 +140,21 @@ def test_commands_without_data():
             assert (one.data_pages, one.chain_pages) == (0, 0)
             assert str(carry(machine, 1, one.cid)) == "0:01 Invalid Command Opcode"
             machine.release(1, one.cid)
+
+
+def test_a_deallocate():
+    """The modelled controller does not have it, and its blocks stay as they are."""
+    content = bytes(range(256)) * 4
+    with Machine(image=content) as machine:
+        refused(Code.LENGTH_MISMATCH, machine.reserve, 1, Kind.DEALLOCATE, 0, 2, [Piece(0, 1024)])
+        one = machine.reserve(1, Kind.DEALLOCATE, 0, 2, [Piece(0, 32)])
+        assert (one.data_pages, one.chain_pages) == (1, 0)
+        machine.fill(1, one.cid, BlockRange(0, 1).to_bytes() + BlockRange(1, 1).to_bytes())
+        assert str(carry(machine, 1, one.cid)) == "0:01 Invalid Command Opcode"
+        assert machine.gather(1, one.cid) == b""
+        machine.release(1, one.cid)
+        found = bytearray(len(content))
+        assert machine.read(1, 0, found) == (0, 0) and found == content
 
 
 def test_a_command_that_the_fetch_refuses():

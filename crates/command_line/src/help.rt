@@ -31,10 +31,11 @@ Lines that begin with `>` are passed over: they are the answers of a transcript.
 
 /// What `nvmesgl steps --help` says last.
 pub const STEPS_AFTER: &str = "A script has one step on each line; `#` begins a comment.
-  reserve Q KIND SLBA BLOCKS PIECE..   KIND is read, write or compare, or, without a piece,
-                                       write_zeroes, verify or flush; a PIECE is OFFSET+LEN,
-                                       bytes of a page of its own, or xLEN, bytes left out
-  fill Q CID HEX                       the bytes of a Write or Compare, zeros after them
+  reserve Q KIND SLBA BLOCKS PIECE..   KIND is read, write, compare or deallocate, or, without
+                                       a piece, write_zeroes, verify or flush; a PIECE is
+                                       OFFSET+LEN, bytes of a page of its own, or xLEN, bytes
+                                       left out; BLOCKS of a deallocate counts ranges
+  fill Q CID HEX                       the bytes of a command that brings none, zeros after them
   build Q CID                          lays the scatter-gather list
   submit Q CID  |  cancel Q CID        sends the command, or gives it up
   ring Q                               tells the controller

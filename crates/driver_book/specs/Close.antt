@@ -2,13 +2,13 @@
 use Rattle.std.specs.List.{list_any}
 use Rattle.std.specs.Prelude.{◌≡◌, ◌⊎◌, ℕ, ◌+◌, ◌<◌, ◌≤◌, ◌==◌, ◌&&◌, Bool, true, false, Option, Some, None, is_none, List, [], ◌∷◌, length, map, count_by, slice_get, take, drop, sum_by, if◌then◌else◌}
 use Rattle.entry_codec.specs.declared.status.{Status.Status, TheConstants.Status.ABORTED_SQ_DELETION}
-use Rattle.machine_model.specs.{Claims.counts_of, Refusals.{same_flags, same_kind}, Status.same_status, declared.words.Reaped.TheVariants.Done}
+use Rattle.machine_model.specs.{Claims.counts_of, Status.same_status, declared.words.Reaped.TheVariants.Done}
 use Rattle.driver_book.specs.{Entries.{Entry, asked_in}, History.{is_accepted, accepted}, Reports.Report, State.{BookContents, SeatContents}}
 use Rattle.driver_book.specs.declared.report.{CloseFault.{CloseFault, TheVariants.{Missing, SeatOut, StillOut, Memory}}, Asked.Asked, Receipt.Receipt}
 use Rattle.step_core.specs.Values.{Reply, Step}
 use Rattle.step_core.specs.declared.step.Reply.TheVariants as reply
 use Rattle.step_core.specs.declared.step.Step.TheVariants as step
-use Rattle.io_commands.specs.BlockSizes.{block_bytes}
+use Rattle.io_commands.specs.{BlockSizes.block_bytes, Requests.{same_flags, same_kind}}
 
 -- How the log says that a command ended
 

@@ -4,7 +4,6 @@ ghost use Rattle.std.specs.Prelude.{◌≡◌, ℕ, ◌+◌, ◌<◌, ◌≤◌,
 ghost use Rattle.std.specs.List.{list_any};
 ghost use Rattle.machine_model.specs.Claims.{IsSound};
 ghost use Rattle.machine_model.specs.Status.{same_status as same_statuses};
-ghost use Rattle.machine_model.specs.Refusals.{same_command, same_flags, same_kind, same_use};
 ghost use Rattle.driver_book.specs.History.{LeadsTo, accepted, is_accepted, is_submission as is_step_of_submission};
 ghost use Rattle.driver_book.specs.State.{AreSeated};
 ghost use Rattle.driver_book.specs.Close.{status_by, held, same_seat, accepted_of, fits_status, same_asked, fits_asked, queue_in, identifier_in, is_receipt_of, has, stands, AllStand, IsMissing, receipts_of, has_open, IsDone, RefusesClose, Reports};
@@ -18,7 +17,6 @@ use crate::seat::Seat;
 use crate::two_passes::first_missing;
 use crate::{Log, NoBytes, ShownEntry, ShownStep};
 use entry_codec::Status;
-use io_commands::{AdminCommand, Flags, Kind, PageUse};
 use machine_model::words::Reaped;
 use std::alloc::{Allocator, Global};
 use std::sync::ledger::Share;
@@ -134,62 +132,13 @@ fn fits(status: Option<Status>, told: Option<Status>) -> bool
     }
 }
 
-/// Whether two admin commands do the same with a page.
-fn is_same_use(a: PageUse, b: PageUse) -> bool
-    ensures { result ≡ same_use a b }
-{
-    match (a, b) {
-        (PageUse::Nothing, PageUse::Nothing)
-        | (PageUse::In, PageUse::In)
-        | (PageUse::Out, PageUse::Out) => true,
-        _ => false,
-    }
-}
-
-/// Whether two admin commands are the same.
-fn is_same_command(a: AdminCommand, b: AdminCommand) -> bool
-    ensures { result ≡ same_command a b }
-{
-    a.opcode == b.opcode
-        && is_same_use(a.page, b.page)
-        && a.cdw10 == b.cdw10
-        && a.cdw11 == b.cdw11
-        && a.cdw12 == b.cdw12
-        && a.cdw13 == b.cdw13
-        && a.cdw14 == b.cdw14
-        && a.cdw15 == b.cdw15
-}
-
-/// Whether two commands are of one kind.
-fn is_same_kind(a: Kind, b: Kind) -> bool
-    ensures { result ≡ same_kind a b }
-{
-    match (a, b) {
-        (Kind::Read, Kind::Read)
-        | (Kind::Write, Kind::Write)
-        | (Kind::Compare, Kind::Compare)
-        | (Kind::WriteZeroes, Kind::WriteZeroes)
-        | (Kind::Verify, Kind::Verify)
-        | (Kind::Flush, Kind::Flush) => true,
-        (Kind::Admin(a), Kind::Admin(b)) => is_same_command(a, b),
-        _ => false,
-    }
-}
-
-/// Whether two commands have the same flags.
-fn is_same_flags(a: Flags, b: Flags) -> bool
-    ensures { result ≡ same_flags a b }
-{
-    a.force_unit_access == b.force_unit_access && a.limited_retry == b.limited_retry
-}
-
 /// Whether two commands ask for the same, apart from their pieces.
 fn is_same_asked(a: Asked, b: Asked) -> bool
     ensures { result ≡ same_asked a b }
 {
-    is_same_kind(a.kind, b.kind)
+    a.kind.is_same(b.kind)
         && a.nsid == b.nsid
-        && is_same_flags(a.flags, b.flags)
+        && a.flags.is_same(b.flags)
         && a.slba == b.slba
         && a.block_size.bytes() == b.block_size.bytes()
         && a.blocks == b.blocks

@@ -12,6 +12,8 @@ pub const READ: u8 = 0x02;
 pub const COMPARE: u8 = 0x05;
 /// Write Zeroes.
 pub const WRITE_ZEROES: u8 = 0x08;
+/// Dataset Management.
+pub const DATASET_MANAGEMENT: u8 = 0x09;
 /// Verify.
 pub const VERIFY: u8 = 0x0C;
 
@@ -22,5 +24,6 @@ pub fn values()
     ensures read { READ ≡ 0x02 }
     ensures compare { COMPARE ≡ 0x05 }
     ensures write_zeroes { WRITE_ZEROES ≡ 0x08 }
+    ensures dataset_management { DATASET_MANAGEMENT ≡ 0x09 }
     ensures verify { VERIFY ≡ 0x0C }
 {}

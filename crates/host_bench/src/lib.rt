@@ -19,7 +19,8 @@ pub mod values;
 pub use bench::HostBench;
 pub use call::{Bytes, Call, CallIn, Reply, ReplyIn};
 pub use host_core::{
-    BlockSize, Config, Counts, DataPlace, Doorbell, FillFault, Flags, Hints, HostPositions,
-    HostState, Kind, OpenRefusal, Owner, PageNo, Piece, Pieces, QueueMemory, Reaped, Refusal,
-    RejectedFor, Request, RequestFault, Right, Role, Run, Runs, Status, Unreadable,
+    AdminCommand, BlockRange, BlockSize, Config, Counts, DataPlace, Doorbell, FillFault, Flags,
+    Hints, HostPositions, HostState, Kind, OpenRefusal, Owner, PageNo, PageUse, Piece, Pieces,
+    QueueMemory, Reaped, Refusal, RejectedFor, Request, RequestFault, Right, Role, Run, Runs,
+    Status, Unreadable,
 };

@@ -3,6 +3,7 @@
 ghost use Rattle.std.specs.Prelude.{◌≡◌, IfSome, IfNone, None, length, slice_get};
 ghost use Rattle.std.specs.Option.{option_copied};
 ghost use Rattle.host_core.specs.DataPlaces.{place_at};
+ghost use Rattle.machine_model.specs.Script.{finished_at};
 ghost use Rattle.host_core.specs.Rights.{queue_memory_at, right_at, runs_of_command};
 ghost use Rattle.host_bench.specs.Calls.{Does};
 ghost use Rattle.host_bench.specs.Reach.{WritesData, data_at, draft_data_at};
@@ -12,6 +13,7 @@ use crate::bench::HostBench;
 use crate::call::{Call, ReplyIn};
 use crate::values::finished_in;
 use host_core::{DataPlace, QueueMemory, Right, Runs};
+use io_commands::Finished;
 use page_memory::PageNo;
 use std::alloc::Allocator;
 
@@ -44,6 +46,13 @@ impl<A: Allocator> HostBench<A> {
         ensures { result ≡ place_at self.now.world.host q cid i }
     {
         self.kept.host.place(q, cid, i)
+    }
+
+    /// A collected command, to look at and to gather its bytes from where they lie; none where no such command is collected.
+    pub fn finished(&self, q: u16, cid: u16) -> Option<&Finished<A>>
+        ensures { option_copied result ≡ finished_at q cid self.now.finished }
+    {
+        finished_in(&self.kept.values, q, cid)
     }
 
     /// The 4,096 bytes of the page of data piece `i` of a collected command, where they lie; pieces are counted from 0, and buckets are

@@ -7,7 +7,7 @@ use Rattle.std.proofs.lemmas.{Bool.{true≢false, false_from_ne_true}, Option.{s
 use Rattle.std.specs.{List.AllByRecursion, Option.{option_map_or, option_map}}
 use Rattle.entry_codec.specs.{Submission.{submission_bytes, FitsSubmission}, declared.submission.SubEntry.SubEntry}
 use Rattle.sgl_descriptor.specs.Spelling.{spelling}
-use Rattle.io_commands.{proofs.{Building.carries_entry, Pointers.{length-pointer_of, psdt_fits}}, specs.{Asked.Request, DataBytes.PagesOut, Drafts.{DraftContents, admin_pointer, draft_first, entry_of}, Requests.moves_data, Values.numbers_of, declared.request.Kind.{Kind, TheVariants.Admin}}}
+use Rattle.io_commands.{proofs.{Building.carries_entry, Pointers.{length-pointer_of, psdt_fits}}, specs.{Asked.Request, DataBytes.PagesOut, Drafts.{DraftContents, admin_pointer, draft_first, entry_of}, Requests.has_list, Values.numbers_of, declared.request.Kind.{Kind, TheVariants.Admin}}}
 use Rattle.sgl_chain.proofs.Spelled.{length-spelling}
 use Rattle.machine_model.proofs.{Counting.held_once, Kept.live_has_sq, Steps.{length-with_pages, first_fails, found_all}}
 use Rattle.machine_model.specs.{Memory.with_pages, Proper.IsProperDraft, After.after_submit, declared.words.Work.TheVariants.{Io, Management}}
@@ -168,7 +168,7 @@ full_is t queues q x at =
 
 fits-entry_of : (kind : Kind) (cid : ℕ) (r : Request) (sgl1 pages : List ℕ) → FitsSubmission (entry_of kind cid r sgl1 pages)
 fits-entry_of (Admin command) cid r sgl1 pages = record { fuse = omega arith; psdt = omega arith }
-fits-entry_of kind cid r sgl1 pages = record { fuse = omega arith; psdt = psdt_fits (moves_data r.kind) }
+fits-entry_of kind cid r sgl1 pages = record { fuse = omega arith; psdt = psdt_fits (has_list r.kind) }
 
 entry-fits : (d : DraftContents) (entry : SubEntry) → IsProperDraft d → d.entry ≡ Some entry → FitsSubmission entry
 entry-fits d entry proper built =

@@ -4,65 +4,16 @@ ghost use Rattle.std.specs.Prelude.{◌≡◌, ℕ, length, nat_eq, true};
 ghost use Rattle.std.specs.Cmp.Lexicographic.{pointwise};
 ghost use Rattle.io_commands.specs.Values.{numbers_of};
 ghost use Rattle.machine_model.specs.Proper.{ArePages, IsProperDraft};
-ghost use Rattle.machine_model.specs.Refusals.{is_of, asks_for as spec_asks_for, same_command as spec_same_command, same_flags as spec_same_flags, same_kind as spec_same_kind, same_piece as spec_same_piece, same_pieces as spec_same_pieces, same_request as spec_same_request, same_use as spec_same_use};
+ghost use Rattle.machine_model.specs.Refusals.{is_of, asks_for as spec_asks_for, same_piece as spec_same_piece, same_pieces as spec_same_pieces, same_request as spec_same_request};
 ghost use Rattle.host_core.specs.Commands.{phase_of_end, has_drafted, has_record as spec_has_record};
 ghost use Rattle.host_core.specs.Parts.{record_of, records_of};
 
 use crate::record::Record;
 use crate::tables::HostTables;
-use io_commands::{AdminCommand, Draft, Flags, Kind, PageUse, Piece, Request};
+use io_commands::{Draft, Piece, Request};
 use machine_model::words::Work;
 use page_memory::{PAGE_BYTES, Page, PageNo};
 use std::alloc::Allocator;
-
-/// Whether two admin commands do the same with a page.
-fn same_use(a: PageUse, b: PageUse) -> bool
-    ensures { result ≡ spec_same_use a b }
-{
-    match (a, b) {
-        (PageUse::Nothing, PageUse::Nothing)
-        | (PageUse::In, PageUse::In)
-        | (PageUse::Out, PageUse::Out) => true,
-        _ => false,
-    }
-}
-
-/// Whether two admin commands are the same.
-fn same_command(a: AdminCommand, b: AdminCommand) -> bool
-    ensures { result ≡ spec_same_command a b }
-{
-    a.opcode == b.opcode
-        && same_use(a.page, b.page)
-        && a.cdw10 == b.cdw10
-        && a.cdw11 == b.cdw11
-        && a.cdw12 == b.cdw12
-        && a.cdw13 == b.cdw13
-        && a.cdw14 == b.cdw14
-        && a.cdw15 == b.cdw15
-}
-
-/// Whether two commands are of one kind.
-fn same_kind(a: Kind, b: Kind) -> bool
-    ensures { result ≡ spec_same_kind a b }
-{
-    match (a, b) {
-        (Kind::Read, Kind::Read)
-        | (Kind::Write, Kind::Write)
-        | (Kind::Compare, Kind::Compare)
-        | (Kind::WriteZeroes, Kind::WriteZeroes)
-        | (Kind::Verify, Kind::Verify)
-        | (Kind::Flush, Kind::Flush) => true,
-        (Kind::Admin(a), Kind::Admin(b)) => same_command(a, b),
-        _ => false,
-    }
-}
-
-/// Whether two commands have the same flags.
-fn same_flags(a: Flags, b: Flags) -> bool
-    ensures { result ≡ spec_same_flags a b }
-{
-    a.force_unit_access == b.force_unit_access && a.limited_retry == b.limited_retry
-}
 
 /// Whether two pieces are the same.
 fn same_piece(a: Piece, b: Piece) -> bool
@@ -102,9 +53,9 @@ fn same_pieces(a: &[Piece], b: &[Piece]) -> bool
 fn same_request<A: Allocator>(a: &Request<A>, b: &Request<A>) -> bool
     ensures { result ≡ spec_same_request a.now b.now }
 {
-    same_kind(a.kind, b.kind)
+    a.kind.is_same(b.kind)
         && a.nsid == b.nsid
-        && same_flags(a.flags, b.flags)
+        && a.flags.is_same(b.flags)
         && a.slba == b.slba
         && a.block_size.bytes() == b.block_size.bytes()
         && a.blocks == b.blocks

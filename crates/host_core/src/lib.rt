@@ -50,7 +50,10 @@ pub use data_place::DataPlace;
 pub use doorbell::Doorbell;
 pub use entry_codec::{Hints, Status};
 pub use host::Host;
-pub use io_commands::{BlockSize, FillFault, Flags, Kind, Piece, Pieces, Request, RequestFault};
+pub use io_commands::{
+    AdminCommand, BlockRange, BlockSize, FillFault, Flags, Kind, PageUse, Piece, Pieces, Request,
+    RequestFault,
+};
 pub use machine_model::words::{HostState, OpenRefusal, Peer, Reaped, Refusal, RejectedFor};
 pub use open::Opened;
 pub use page_ledger::{Counts, Owner, Role};

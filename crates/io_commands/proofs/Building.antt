@@ -1,6 +1,6 @@
 -- What building a draft rests on, and what its entry and pages say.
 use Rattle.sgl_descriptor.specs.declared.Part.TheVariants as part
-use Rattle.std.proofs.Common.{◌≡◌, ℕ, suc, List, [], ◌∷◌, refl, ap, eqb-true, length, arith, ◌≤◌, ◌<◌, ◌+◌, ◌*◌, zero, ◌++◌, Some, None, subst, ◌∙◌, take, drop, length-append, Option, sym, ◌-◌, ◌^◌, ◌%◌, Bool, true, false, nat_le, nat_lt, ◌==◌, ◌||◌, not, replicate, true≢false, All, if◌then◌else◌}
+use Rattle.std.proofs.Common.{◌≡◌, ◌/◌, ℕ, suc, List, [], ◌∷◌, refl, ap, eqb-true, length, arith, ◌≤◌, ◌<◌, ◌+◌, ◌*◌, zero, ◌++◌, Some, None, subst, ◌∙◌, take, drop, length-append, Option, sym, ◌-◌, ◌^◌, ◌%◌, Bool, true, false, nat_le, nat_lt, ◌==◌, ◌||◌, not, replicate, true≢false, All, if◌then◌else◌}
 use Rattle.std.proofs.{Math.Seq.{take-append_seam, drop-append_seam}, lemmas.{Bool.Decides.nat_tests, Grind.common_steps}}
 use Rattle.std.proofs.lemmas.List.{length-map, length-drop, length-take-le, get_or_append_left, length-take, Elements.{All-head, All-tail, All-nil, All-cons}, Sums.sum_by-cons}
 use Rattle.sgl_descriptor.specs.{Spelling.Fits, Targets.descriptor_of_part, declared.{Descriptor.Descriptor, Part.Part}}
@@ -8,8 +8,9 @@ use Rattle.sgl_chain.{proofs.Joins.{joined_few, joined_from, from_list}, specs.C
 use Rattle.sgl_chain.specs.{Joining.{joined, joins, both}, Laws.LaidChainsSpell, Spells.{Holds, IsLaid, SpellsWhereLaid}}
 use Rattle.page_memory.specs.{Memory.Memory, Pages.with_bytes}
 use Rattle.io_commands.specs.{Asked.Request, DataBytes.{PagesOut, filled}}
-use Rattle.io_commands.specs.Drafts.{laid, caller_entry, entry_of, io_entry, DraftContents, IsDraft, built, draft_segments, draft_parts, draft_first, draft_entry, HoldsPages, SpellsItsParts, IsBuiltIfAny, IsBuilt, DraftsCarryTheirEntry, BuiltDraftsSpell}
-use Rattle.io_commands.specs.{Admin.has_its_page, BlockSizes.{block_bytes, most_blocks}, declared.block_size.BlockSize.{BlockSize, TheVariants.{Bytes512, Bytes1024, Bytes2048, Bytes4096}}, Jobs.block_number, Requests.{crosses_page, fault_of, flag_bits, has_its_bytes, is_admin, is_hosts_own, moves_data, names_blocks, need_of, is_count, is_empty_piece, counted_length, counted_lengths, data_count, parts_of, joined_parts, FitsPiece}, Values.{numbers_of, IsGood}, declared.request.{Flags.Flags, Kind.{Kind, TheVariants.{Read, Write, Compare, WriteZeroes, Verify, Flush, Admin}}, RequestFault.{RequestFault, TheVariants.{TooManyPieces, EmptyPiece, CrossesPage, BadCount, LengthMismatch, HostsOwn}}}}
+use Rattle.io_commands.proofs.Pointers.{moves_list}
+use Rattle.io_commands.specs.Drafts.{laid, caller_entry, dword_10, dword_11, dword_12, entry_of, io_entry, DraftContents, IsDraft, built, draft_segments, draft_parts, draft_first, draft_entry, HoldsPages, SpellsItsParts, IsBuiltIfAny, IsBuilt, DraftsCarryTheirEntry, BuiltDraftsSpell}
+use Rattle.io_commands.specs.{Admin.has_its_page, BlockSizes.{block_bytes, most_blocks}, declared.block_size.BlockSize.{BlockSize, TheVariants.{Bytes512, Bytes1024, Bytes2048, Bytes4096}}, Jobs.{block_number, first_block}, Requests.{crosses_page, fault_of, flag_bits, has_its_bytes, has_list, is_admin, is_hosts_own, most_of, moves_data, names_blocks, names_ranges, need_of, is_count, is_empty_piece, counted_length, counted_lengths, data_count, parts_of, joined_parts, FitsPiece}, Values.{numbers_of, IsGood}, declared.request.{Flags.Flags, Kind.{Kind, TheVariants.{Read, Write, Compare, WriteZeroes, Verify, Flush, Deallocate, Admin}}, RequestFault.{RequestFault, TheVariants.{TooManyPieces, EmptyPiece, CrossesPage, BadCount, LengthMismatch, HostsOwn}}}}
 use Rattle.io_commands.specs.declared.admin.{AdminCommand.AdminCommand, PageUse.PageUse}
 use Rattle.controller_walk.specs.Units.{first_passing}
 use Rattle.sgl_descriptor.specs.Spelling.{spelling}
@@ -67,6 +68,7 @@ counted Compare size blocks pieces h far = eqb-true (counted_lengths Compare pie
 counted WriteZeroes size blocks pieces h far = eqb-true (counted_lengths WriteZeroes pieces) (need_of WriteZeroes size blocks) (has_bytes WriteZeroes size blocks pieces h)
 counted Verify size blocks pieces h far = eqb-true (counted_lengths Verify pieces) (need_of Verify size blocks) (has_bytes Verify size blocks pieces h)
 counted Flush size blocks pieces h far = eqb-true (counted_lengths Flush pieces) (need_of Flush size blocks) (has_bytes Flush size blocks pieces h)
+counted Deallocate size blocks pieces h far = eqb-true (counted_lengths Deallocate pieces) (need_of Deallocate size blocks) (has_bytes Deallocate size blocks pieces h)
 counted (Admin command) size blocks pieces h far = absurd (true≢false far)
 
 -- what moves data through a list is no admin command
@@ -77,17 +79,40 @@ moves_blocks Compare moves = refl
 moves_blocks WriteZeroes moves = refl
 moves_blocks Verify moves = refl
 moves_blocks Flush moves = refl
+moves_blocks Deallocate moves = refl
 moves_blocks (Admin command) moves = absurd (true≢false (sym moves))
 
--- where it moves data it names blocks
-pub moves_names : (kind : Kind) → moves_data kind ≡ true → names_blocks kind ≡ true
-moves_names Read moves = refl
-moves_names Write moves = refl
-moves_names Compare moves = refl
-moves_names WriteZeroes moves = refl
-moves_names Verify moves = refl
-moves_names Flush moves = absurd (true≢false (sym moves))
-moves_names (Admin command) moves = absurd (true≢false (sym moves))
+pub list_blocks : (kind : Kind) → has_list kind ≡ true → is_admin kind ≡ false
+list_blocks Read list = refl
+list_blocks Write list = refl
+list_blocks Compare list = refl
+list_blocks WriteZeroes list = refl
+list_blocks Verify list = refl
+list_blocks Flush list = refl
+list_blocks Deallocate list = refl
+list_blocks (Admin command) list = absurd (true≢false (sym list))
+
+-- what moves data names no ranges
+moves_no_ranges : (kind : Kind) → moves_data kind ≡ true → names_ranges kind ≡ false
+moves_no_ranges Read moves = refl
+moves_no_ranges Write moves = refl
+moves_no_ranges Compare moves = refl
+moves_no_ranges WriteZeroes moves = refl
+moves_no_ranges Verify moves = refl
+moves_no_ranges Flush moves = refl
+moves_no_ranges Deallocate moves = absurd (true≢false (sym moves))
+moves_no_ranges (Admin command) moves = refl
+
+-- where it has a list it names blocks or ranges
+list_names : (kind : Kind) → has_list kind ≡ true → (names_blocks kind || names_ranges kind) ≡ true
+list_names Read list = refl
+list_names Write list = refl
+list_names Compare list = refl
+list_names WriteZeroes list = refl
+list_names Verify list = refl
+list_names Flush list = absurd (true≢false (sym list))
+list_names Deallocate list = refl
+list_names (Admin command) list = absurd (true≢false (sym list))
 
 in_range : (most blocks : ℕ) (names : Bool) → names ≡ true → (if names then not ((blocks == 0) || nat_lt most blocks) else blocks == 0) ≡ true → 0 < blocks
 in_range most blocks true is h = grind (arith, nat_tests)
@@ -103,28 +128,48 @@ few_of_a_size Bytes1024 = omega arith
 few_of_a_size Bytes2048 = omega arith
 few_of_a_size Bytes4096 = omega arith
 
+-- ranges are no more than blocks may be
+few_ranges : (b : Bool) (size : BlockSize) → (if b then 256 else most_blocks size) ≤ most_blocks size
+few_ranges false size = omega arith
+few_ranges true Bytes512 = omega arith
+few_ranges true Bytes1024 = omega arith
+few_ranges true Bytes2048 = omega arith
+few_ranges true Bytes4096 = omega arith
+
 some_bytes : (size : BlockSize) (blocks : ℕ) → 0 < blocks → 0 < block_bytes size * blocks
 some_bytes Bytes512 blocks some = omega arith
 some_bytes Bytes1024 blocks some = omega arith
 some_bytes Bytes2048 blocks some = omega arith
 some_bytes Bytes4096 blocks some = omega arith
 
--- so one that moves data has a block to 1 MiB of them, and pieces
-pub some_blocks : (kind : Kind) (size : BlockSize) (blocks : ℕ) (pieces : List Piece) → fault_of kind size blocks pieces ≡ None → moves_data kind ≡ true → 0 < blocks
-some_blocks kind size blocks pieces h moves = in_range (most_blocks size) blocks (names_blocks kind) (moves_names kind moves) (has_count kind size blocks pieces h)
+-- so one with a list has a block to 1 MiB of them, or a range to 256, and pieces
+pub some_blocks : (kind : Kind) (size : BlockSize) (blocks : ℕ) (pieces : List Piece) → fault_of kind size blocks pieces ≡ None → has_list kind ≡ true → 0 < blocks
+some_blocks kind size blocks pieces h list = in_range (most_of kind size) blocks (names_blocks kind || names_ranges kind) (list_names kind list) (has_count kind size blocks pieces h)
 
 pub few_blocks : (kind : Kind) (size : BlockSize) (blocks : ℕ) (pieces : List Piece) → fault_of kind size blocks pieces ≡ None → blocks ≤ most_blocks size
-few_blocks kind size blocks pieces h = at_most (most_blocks size) blocks (names_blocks kind) (has_count kind size blocks pieces h)
+few_blocks kind size blocks pieces h =
+    let most = at_most (most_of kind size) blocks (names_blocks kind || names_ranges kind) (has_count kind size blocks pieces h) in
+    let few = few_ranges (names_ranges kind) size in
+    omega (arith, most, few)
 
-pub some_pieces : (kind : Kind) (size : BlockSize) (blocks : ℕ) (pieces : List Piece) → fault_of kind size blocks pieces ≡ None → moves_data kind ≡ true → 0 < length pieces
-some_pieces kind size blocks [] h moves =
-    let need : 0 ≡ block_bytes size * blocks = counted kind size blocks [] h (moves_blocks kind moves) ∙ ap (λ (b : Bool). if b then block_bytes size * blocks else 0) moves in
-    let some = some_blocks kind size blocks [] h moves in
-    let none = some_bytes size blocks some in
-    absurd (omega (arith, need, none))
-some_pieces kind size blocks (piece ∷ pieces) h moves = omega arith
+some_need : (kind : Kind) (size : BlockSize) (blocks : ℕ) → has_list kind ≡ true → 0 < blocks → 0 < need_of kind size blocks
+some_need Read size blocks list some = some_bytes size blocks some
+some_need Write size blocks list some = some_bytes size blocks some
+some_need Compare size blocks list some = some_bytes size blocks some
+some_need Deallocate size blocks list some = omega (arith, some)
+some_need WriteZeroes size blocks list some = absurd (true≢false (sym list))
+some_need Verify size blocks list some = absurd (true≢false (sym list))
+some_need Flush size blocks list some = absurd (true≢false (sym list))
+some_need (Admin command) size blocks list some = absurd (true≢false (sym list))
 
-some_length : (kind : Kind) (piece : Piece) → moves_data kind ≡ false → is_admin kind ≡ false → is_empty_piece piece ≡ false → counted_length kind piece ≡ 0 → ⊥
+pub some_pieces : (kind : Kind) (size : BlockSize) (blocks : ℕ) (pieces : List Piece) → fault_of kind size blocks pieces ≡ None → has_list kind ≡ true → 0 < length pieces
+some_pieces kind size blocks [] h list =
+    let need : 0 ≡ need_of kind size blocks = counted kind size blocks [] h (list_blocks kind list) in
+    let some = some_need kind size blocks list (some_blocks kind size blocks [] h list) in
+    absurd (omega (arith, need, some))
+some_pieces kind size blocks (piece ∷ pieces) h list = omega arith
+
+some_length : (kind : Kind) (piece : Piece) → has_list kind ≡ false → is_admin kind ≡ false → is_empty_piece piece ≡ false → counted_length kind piece ≡ 0 → ⊥
 some_length kind (Data offset len) still far some none = grind (arith, nat_tests)
 some_length WriteZeroes (Bucket len) still far some none = grind (arith, nat_tests)
 some_length Verify (Bucket len) still far some none = grind (arith, nat_tests)
@@ -133,12 +178,23 @@ some_length (Admin command) (Bucket len) still far some none = true≢false far
 some_length Read (Bucket len) still far some none = true≢false still
 some_length Write (Bucket len) still far some none = true≢false still
 some_length Compare (Bucket len) still far some none = true≢false still
+some_length Deallocate (Bucket len) still far some none = true≢false still
 
--- a command of blocks that moves none has no piece
-pub no_pieces : (kind : Kind) (size : BlockSize) (blocks : ℕ) (pieces : List Piece) → fault_of kind size blocks pieces ≡ None → moves_data kind ≡ false → is_admin kind ≡ false → pieces ≡ []
+no_need : (kind : Kind) (size : BlockSize) (blocks : ℕ) → has_list kind ≡ false → need_of kind size blocks ≡ 0
+no_need Read size blocks still = absurd (true≢false still)
+no_need Write size blocks still = absurd (true≢false still)
+no_need Compare size blocks still = absurd (true≢false still)
+no_need Deallocate size blocks still = absurd (true≢false still)
+no_need WriteZeroes size blocks still = refl
+no_need Verify size blocks still = refl
+no_need Flush size blocks still = refl
+no_need (Admin command) size blocks still = refl
+
+-- a command of blocks without a list has no piece
+pub no_pieces : (kind : Kind) (size : BlockSize) (blocks : ℕ) (pieces : List Piece) → fault_of kind size blocks pieces ≡ None → has_list kind ≡ false → is_admin kind ≡ false → pieces ≡ []
 no_pieces kind size blocks [] h still far = refl
 no_pieces kind size blocks (piece ∷ pieces) h still far =
-    let need : counted_lengths kind (piece ∷ pieces) ≡ 0 = counted kind size blocks (piece ∷ pieces) h far ∙ ap (λ (b : Bool). if b then block_bytes size * blocks else 0) still in
+    let need : counted_lengths kind (piece ∷ pieces) ≡ 0 = counted kind size blocks (piece ∷ pieces) h far ∙ no_need kind size blocks still in
     let none : is_empty_piece piece ≡ false = grind (arith, nat_tests) in
     absurd (some_length kind piece still far none (omega (arith, need, sum_by-cons (counted_length kind) piece pieces)))
 
@@ -165,11 +221,11 @@ joined_parts_few pieces numbers =
     let most : length (parts_of pieces numbers) ≤ length pieces = parts_few pieces numbers in
     omega arith
 
--- a good request that moves data has parts in its pages
-pub some_parts : (r : Request) (numbers : List ℕ) → IsGood r → moves_data r.kind ≡ true → data_count r.pieces ≤ length numbers → 0 < length (joined_parts r.pieces numbers)
-some_parts r numbers good moves enough =
+-- a good request with a list has parts in its pages
+pub some_parts : (r : Request) (numbers : List ℕ) → IsGood r → has_list r.kind ≡ true → data_count r.pieces ≤ length numbers → 0 < length (joined_parts r.pieces numbers)
+some_parts r numbers good list enough =
     let all : length (parts_of r.pieces numbers) ≡ length r.pieces = length-parts_of r.pieces numbers enough in
-    let some : 0 < length r.pieces = some_pieces r.kind r.block_size r.blocks r.pieces good moves in
+    let some : 0 < length r.pieces = some_pieces r.kind r.block_size r.blocks r.pieces good list in
     some_joined (parts_of r.pieces numbers) (omega arith)
 
 -- the first of its pages are enough for its data pieces
@@ -229,7 +285,7 @@ built_spells d chain count segments first spells = λ moves m held.
     rw (same_numbers (draft_segments d) d.chain_pages count, ← first)
     (spells m (rw segments (held_laid m (draft_segments d) d.chain_pages (omega (arith, count)) held)))
 
--- A draft that moves no data by a list has no chain.
+-- A draft without a list has no chain.
 
 laid-none : (segments : List (List Descriptor)) → laid segments [] ≡ []
 laid-none [] = refl
@@ -247,25 +303,26 @@ one_part page (Data offset len ∷ []) (n ∷ pages) segment h = refl
 one_part page (Data offset len ∷ piece ∷ pieces) pages segment h = absurd (true≢false (sym h))
 one_part page (Bucket len ∷ pieces) pages segment h = absurd (true≢false (sym h))
 
-no_part : (r : Request) (pages : List ℕ) (segment : ℕ) → IsGood r → moves_data r.kind ≡ false → is_admin r.kind ≡ false → pages_needed (length (joined_parts r.pieces pages)) segment ≡ 0
+no_part : (r : Request) (pages : List ℕ) (segment : ℕ) → IsGood r → has_list r.kind ≡ false → is_admin r.kind ≡ false → pages_needed (length (joined_parts r.pieces pages)) segment ≡ 0
 no_part r pages segment good still far =
     ap (λ (pieces : List Piece). pages_needed (length (joined_parts pieces pages)) segment) (no_pieces r.kind r.block_size r.blocks r.pieces good still far)
 
-none_needed : (kind : Kind) (r : Request) (pages : List ℕ) (segment : ℕ) → r.kind ≡ kind → IsGood r → moves_data kind ≡ false → pages_needed (length (joined_parts r.pieces pages)) segment ≡ 0
+none_needed : (kind : Kind) (r : Request) (pages : List ℕ) (segment : ℕ) → r.kind ≡ kind → IsGood r → has_list kind ≡ false → pages_needed (length (joined_parts r.pieces pages)) segment ≡ 0
 none_needed Read r pages segment is good still = absurd (true≢false still)
 none_needed Write r pages segment is good still = absurd (true≢false still)
 none_needed Compare r pages segment is good still = absurd (true≢false still)
-none_needed WriteZeroes r pages segment is good still = no_part r pages segment good (ap moves_data is) (ap is_admin is)
-none_needed Verify r pages segment is good still = no_part r pages segment good (ap moves_data is) (ap is_admin is)
-none_needed Flush r pages segment is good still = no_part r pages segment good (ap moves_data is) (ap is_admin is)
+none_needed Deallocate r pages segment is good still = absurd (true≢false still)
+none_needed WriteZeroes r pages segment is good still = no_part r pages segment good (ap has_list is) (ap is_admin is)
+none_needed Verify r pages segment is good still = no_part r pages segment good (ap has_list is) (ap is_admin is)
+none_needed Flush r pages segment is good still = no_part r pages segment good (ap has_list is) (ap is_admin is)
 none_needed (Admin command) r pages segment is good still =
     one_part command.page r.pieces pages segment (sym (ap (λ (k : Kind). has_its_bytes k r.block_size r.blocks r.pieces) is) ∙ has_bytes r.kind r.block_size r.blocks r.pieces good)
 
-pub no_chain : (d : DraftContents) → IsDraft d → moves_data d.request.kind ≡ false → d.chain_pages ≡ []
+pub no_chain : (d : DraftContents) → IsDraft d → has_list d.request.kind ≡ false → d.chain_pages ≡ []
 no_chain d h still = no_pages d.chain_pages (h.chain_has_pages ∙ none_needed d.request.kind d.request (numbers_of d.data_pages) d.segment refl h.good still)
 
 -- with its entry it is built
-pub built_as : (d : DraftContents) (entry : SubEntry) → IsDraft d → moves_data d.request.kind ≡ false → entry ≡ draft_entry d → ◌≡◌ {A = DraftContents} (record d { entry = Some entry }) (built d)
+pub built_as : (d : DraftContents) (entry : SubEntry) → IsDraft d → has_list d.request.kind ≡ false → entry ≡ draft_entry d → ◌≡◌ {A = DraftContents} (record d { entry = Some entry }) (built d)
 built_as d entry h still is =
     let none : d.chain_pages ≡ [] = no_chain d h still in
     let laid_there : laid (draft_segments d) d.chain_pages ≡ d.chain_pages = ap (laid (draft_segments d)) none ∙ laid-none (draft_segments d) ∙ sym none in
@@ -279,6 +336,7 @@ entry_of_blocks Compare cid r sgl1 pages far = refl
 entry_of_blocks WriteZeroes cid r sgl1 pages far = refl
 entry_of_blocks Verify cid r sgl1 pages far = refl
 entry_of_blocks Flush cid r sgl1 pages far = refl
+entry_of_blocks Deallocate cid r sgl1 pages far = refl
 entry_of_blocks (Admin command) cid r sgl1 pages far = absurd (true≢false far)
 
 pub draft_of_blocks : (d : DraftContents) → is_admin d.request.kind ≡ false → draft_entry d ≡ io_entry d.cid d.request (spelling (draft_first d))
@@ -287,18 +345,18 @@ draft_of_blocks d far = entry_of_blocks d.request.kind d.cid d.request (spelling
 pub draft_of_admin : (d : DraftContents) (command : AdminCommand) → d.request.kind ≡ Admin command → draft_entry d ≡ caller_entry d.cid d.request.nsid command (numbers_of d.data_pages)
 draft_of_admin d command is = ap (λ (k : Kind). entry_of k d.cid d.request (spelling (draft_first d)) (numbers_of d.data_pages)) is
 
-pub built_still : (d : DraftContents) (entry : SubEntry) → IsDraft d → moves_data d.request.kind ≡ false → is_admin d.request.kind ≡ false → entry ≡ io_entry d.cid d.request (replicate 16 0)
+pub built_still : (d : DraftContents) (entry : SubEntry) → IsDraft d → has_list d.request.kind ≡ false → is_admin d.request.kind ≡ false → entry ≡ io_entry d.cid d.request (replicate 16 0)
     → ◌≡◌ {A = DraftContents} (record d { entry = Some entry }) (built d)
 built_still d entry h still far is =
     let named : io_entry d.cid d.request (replicate 16 0) ≡ io_entry d.cid d.request (spelling (draft_first d)) = rw still refl in
     built_as d entry h still (is ∙ named ∙ sym (draft_of_blocks d far))
 
-pub no_segments : (d : DraftContents) → IsDraft d → moves_data d.request.kind ≡ false → length (draft_segments d) ≡ length d.chain_pages
+pub no_segments : (d : DraftContents) → IsDraft d → has_list d.request.kind ≡ false → length (draft_segments d) ≡ length d.chain_pages
 no_segments d h still =
     let none : d.chain_pages ≡ [] = no_chain d h still in
     ap (λ (pages : PagesOut). length (segments_on d.segment (numbers_of pages) (draft_parts d))) none ∙ ap length (sym none)
 
-pub still_keeps : (d : DraftContents) → IsDraft d → moves_data d.request.kind ≡ false → IsDraft (built d)
+pub still_keeps : (d : DraftContents) → IsDraft d → has_list d.request.kind ≡ false → IsDraft (built d)
 still_keeps d h still = built_keeps d (no_segments d h still) h
 
 -- Filling a draft's data pages.
@@ -390,10 +448,18 @@ blocks_below false false n few = omega (arith, few)
 
 pub entry_blocks : (cid : ℕ) (r : Request) (sgl1 : List ℕ) → IsGood r → moves_data r.kind ≡ true → block_number (io_entry cid r sgl1) ≡ r.blocks
 entry_blocks cid r sgl1 good moves =
-    let some = some_blocks r.kind r.block_size r.blocks r.pieces good moves in
+    let some = some_blocks r.kind r.block_size r.blocks r.pieces good (moves_list r.kind moves) in
     let few_of = few_blocks r.kind r.block_size r.blocks r.pieces good in
     let few = few_of_a_size r.block_size in
-    omega (arith, blocks_below r.flags.force_unit_access r.flags.limited_retry (r.blocks - 1) (omega (arith, some, few)), some)
+    let word : dword_12 r ≡ r.blocks - 1 + flag_bits r.flags = ap (λ (b : Bool). if b then 0 else r.blocks - 1 + flag_bits r.flags) (moves_no_ranges r.kind moves) in
+    omega (arith, word, blocks_below r.flags.force_unit_access r.flags.limited_retry (r.blocks - 1) (omega (arith, some, few)), some)
+
+-- and its first block
+pub entry_block : (cid : ℕ) (r : Request) (sgl1 : List ℕ) → moves_data r.kind ≡ true → first_block (io_entry cid r sgl1) ≡ r.slba
+entry_block cid r sgl1 moves =
+    let low : dword_10 r ≡ r.slba % 4294967296 = ap (λ (b : Bool). if b then r.blocks - 1 else r.slba % 4294967296) (moves_no_ranges r.kind moves) in
+    let high : dword_11 r ≡ r.slba / 4294967296 = ap (λ (b : Bool). if b then 4 else r.slba / 4294967296) (moves_no_ranges r.kind moves) in
+    omega (arith, low, high)
 
 -- and they leave room for that number
 flags_below : (a b : Bool) → (if a then 2 ^ 30 else 0) + (if b then 2 ^ 31 else 0) ≤ 2 ^ 30 + 2 ^ 31
@@ -445,7 +511,7 @@ joined_fit (part ∷ parts) fits =
     subst (All FitsPart) (sym (from_list part parts)) (from_fit part parts (All-head FitsPart part parts fits) (All-tail FitsPart part parts fits))
 
 pub built_drafts_spell : ((s : ℕ) → LaidChainsSpell s) → BuiltDraftsSpell
-built_drafts_spell law d entry h fits e = λ moves m held.
+built_drafts_spell law d entry h fits e = λ list m held.
     let enough : data_count d.request.pieces ≤ length (numbers_of d.data_pages) = omega (arith, length-map d.data_pages (λ page. page.0), h.pieces_have_pages) in
     let laid_there : laid (draft_segments d) d.chain_pages ≡ d.chain_pages = ap (λ (x : DraftContents). x.chain_pages) (is_built d d.entry entry e h.built) in
     let few : length (draft_segments d) ≤ length d.chain_pages = omega (arith, segments_few d.segment (numbers_of d.chain_pages) (draft_parts d), length-map d.chain_pages (λ page. page.0)) in
@@ -453,7 +519,7 @@ built_drafts_spell law d entry h fits e = λ moves m held.
     (record {
       low = h.low;
       high = h.high;
-      some = some_parts d.request (numbers_of d.data_pages) h.good moves enough;
+      some = some_parts d.request (numbers_of d.data_pages) h.good list enough;
       needed = length-map d.chain_pages (λ page. page.0) ∙ h.chain_has_pages;
     })
     (record {

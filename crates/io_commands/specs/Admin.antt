@@ -34,3 +34,14 @@ has_its_page page (Bucket len ∷ pieces) = false
 -- the bytes of a data pointer that names one page: its address as PRP1, and a PRP2 of 0
 abbrev pub page_pointer : ℕ → List ℕ
 page_pointer page = to_le_bytes w64 (4096 * page) ++ replicate 8 0
+
+-- whether two uses of a page are one, and two commands
+abbrev pub same_use : PageUse → PageUse → Bool
+same_use Nothing Nothing = true
+same_use In In = true
+same_use Out Out = true
+same_use a b = false
+
+abbrev pub same_command : AdminCommand → AdminCommand → Bool
+same_command a b =
+    (a.opcode == b.opcode) && same_use a.page b.page && (a.cdw10 == b.cdw10) && (a.cdw11 == b.cdw11) && (a.cdw12 == b.cdw12) && (a.cdw13 == b.cdw13) && (a.cdw14 == b.cdw14) && (a.cdw15 == b.cdw15)

@@ -4,7 +4,7 @@ use Rattle.sgl_descriptor.specs.{Spelling.spelling, declared.{Descriptor.Descrip
 use Rattle.sgl_chain.specs.{Chains.{pages_needed, first_of, segments_on, segment_bytes}, Spells.{Spells, Holds}}
 use Rattle.page_memory.specs.{Memory.Memory, Pages.with_bytes}
 use Rattle.entry_codec.specs.declared.submission.SubEntry.{SubEntry}
-use Rattle.io_commands.specs.{Admin.{page_pointer}, Asked.Request, DataBytes.PagesOut, Requests.{opcode_of, flag_bits, moves_data, data_count, joined_parts, FitsRequest}, Values.{numbers_of, IsGood}}
+use Rattle.io_commands.specs.{Admin.{page_pointer}, Asked.Request, DataBytes.PagesOut, Requests.{opcode_of, flag_bits, has_list, names_ranges, data_count, joined_parts, FitsRequest}, Values.{numbers_of, IsGood}}
 use Rattle.io_commands.specs.declared.{admin.AdminCommand.AdminCommand, request.Kind.{Kind, TheVariants.Admin}}
 
 -- a draft: its pages with their bytes, one for each data piece and those of the chain, and its entry once it is built
@@ -17,24 +17,35 @@ pub record DraftContents : Type 0 where
   pub segment : ℕ
   pub entry : Option SubEntry
 
--- the bytes of an entry's data pointer: its first descriptor's where data moves by a list, and zeros where none does
+-- the bytes of an entry's data pointer: its first descriptor's where there is a list, and zeros where there is none
 abbrev pub pointer_of : Kind → List ℕ → List ℕ
-pointer_of kind sgl1 = if moves_data kind then sgl1 else replicate 16 0
+pointer_of kind sgl1 = if has_list kind then sgl1 else replicate 16 0
 
--- the entry that the driver sends for a request of blocks, with its first descriptor's bytes
+-- Command Dwords 10 to 12: the first block, the number of blocks less one and the flags; of ranges their number less one, and what is to
+-- become of their blocks, of which Deallocate is bit 2
+abbrev pub dword_10 : Request → ℕ
+dword_10 request = if names_ranges request.kind then request.blocks - 1 else request.slba % 4294967296
+
+abbrev pub dword_11 : Request → ℕ
+dword_11 request = if names_ranges request.kind then 4 else request.slba / 4294967296
+
+abbrev pub dword_12 : Request → ℕ
+dword_12 request = if names_ranges request.kind then 0 else request.blocks - 1 + flag_bits request.flags
+
+-- the entry that the driver sends for a request of blocks or ranges, with its first descriptor's bytes
 abbrev pub io_entry : ℕ → Request → List ℕ → SubEntry
 io_entry cid request sgl1 =
     record {
       opcode = opcode_of request.kind;
       fuse = 0;
-      psdt = if moves_data request.kind then 1 else 0;
+      psdt = if has_list request.kind then 1 else 0;
       cid = cid;
       nsid = request.nsid;
       mptr = 0;
       sgl1 = pointer_of request.kind sgl1;
-      cdw10 = request.slba % 4294967296;
-      cdw11 = request.slba / 4294967296;
-      cdw12 = request.blocks - 1 + flag_bits request.flags;
+      cdw10 = dword_10 request;
+      cdw11 = dword_11 request;
+      cdw12 = dword_12 request;
       cdw13 = 0;
       cdw14 = 0;
       cdw15 = 0;
@@ -73,7 +84,7 @@ entry_of kind cid request sgl1 pages = io_entry cid request sgl1
 abbrev pub draft_parts : DraftContents → List Part
 draft_parts d = joined_parts d.request.pieces (numbers_of d.data_pages)
 
--- the descriptor that its entry holds where it moves data, and the segments of its chain
+-- the descriptor that its entry holds where it has a list, and the segments of its chain
 abbrev pub draft_first : DraftContents → Descriptor
 draft_first d = first_of d.segment (numbers_of d.chain_pages) (draft_parts d)
 
@@ -116,9 +127,9 @@ abbrev pub HoldsPages : Memory → PagesOut → Type 0
 HoldsPages m [] = Unit {0}
 HoldsPages m (page ∷ pages) = Holds m (4096 * page.0) page.1 × HoldsPages m pages
 
--- Wherever the chain pages of a draft that moves data stand in a memory, the descriptor of its entry spells its parts.
+-- Wherever the chain pages of a draft with a list stand in a memory, the descriptor of its entry spells its parts.
 abbrev pub SpellsItsParts : DraftContents → Type 0
-SpellsItsParts d = moves_data d.request.kind ≡ true → (m : Memory) → HoldsPages m d.chain_pages → Spells m (draft_first d) (draft_parts d)
+SpellsItsParts d = has_list d.request.kind ≡ true → (m : Memory) → HoldsPages m d.chain_pages → Spells m (draft_first d) (draft_parts d)
 
 -- The numbers of a draft's request and of its pages fit their types.
 pub record FitsDraft (d : DraftContents) : Type 0 where

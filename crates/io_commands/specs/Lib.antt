@@ -11,4 +11,5 @@ pub mod Asked
 pub mod BlockSizes
 pub mod Ends
 pub mod Least
+pub mod Ranges
 pub mod Lent

@@ -1,15 +1,15 @@
 -- What a host asks for: which blocks, in which direction, and the pieces of memory that take part.
-use Rattle.std.specs.List.{list_any}
-use Rattle.std.specs.Prelude.{ℕ, ◌+◌, ◌*◌, ◌^◌, ◌<◌, ◌==◌, nat_lt, Bool, true, false, ◌||◌, not, Option, List, [], ◌∷◌, length, sum_by, count_by, All, if◌then◌else◌}
+use Rattle.std.specs.{Bool.beq, List.list_any}
+use Rattle.std.specs.Prelude.{ℕ, ◌+◌, ◌*◌, ◌^◌, ◌<◌, ◌==◌, nat_lt, Bool, true, false, ◌||◌, ◌&&◌, not, Option, List, [], ◌∷◌, codes, length, sum_by, count_by, All, if◌then◌else◌}
 use Rattle.controller_walk.specs.Units.{first_passing}
 use Rattle.sgl_descriptor.specs.declared.{Direction.{Direction, TheVariants.{Destination, Source}}, Part.Part}
 use Rattle.sgl_chain.specs.Joining.{joined}
-use Rattle.entry_codec.specs.declared.io_opcode.TheConstants.{READ, WRITE, COMPARE, WRITE_ZEROES, VERIFY, FLUSH}
-use Rattle.io_commands.specs.{Admin.{comes_in, has_its_page, is_kept}, Asked.Request, BlockSizes.{block_bytes, most_blocks}, declared.block_size.BlockSize.BlockSize, declared.request.{Flags.Flags, Kind.{Kind, TheVariants.{Read, Write, Compare, WriteZeroes, Verify, Flush, Admin}}, Piece.{Piece, TheVariants.{Data, Bucket}}}}
+use Rattle.entry_codec.specs.declared.io_opcode.TheConstants.{READ, WRITE, COMPARE, WRITE_ZEROES, VERIFY, FLUSH, DATASET_MANAGEMENT}
+use Rattle.io_commands.specs.{Admin.{comes_in, has_its_page, is_kept, same_command}, Asked.Request, BlockSizes.{block_bytes, most_blocks}, declared.block_size.BlockSize.BlockSize, declared.request.{Flags.Flags, Kind.{Kind, TheVariants.{Read, Write, Compare, WriteZeroes, Verify, Flush, Deallocate, Admin}}, Piece.{Piece, TheVariants.{Data, Bucket}}}}
 use Rattle.io_commands.specs.declared.request.RequestFault.{RequestFault, TheVariants.{TooManyPieces, EmptyPiece, CrossesPage, BadCount, LengthMismatch, HostsOwn}}
 use Rattle.sgl_descriptor.specs.declared.Part.TheVariants as part
 
--- a Read, a Write and a Compare move data between blocks and the host's pages, and the others move none
+-- a Read, a Write and a Compare move data between blocks and the host's pages, and the others do not
 abbrev pub moves_data : Kind → Bool
 moves_data Read = true
 moves_data Write = true
@@ -17,11 +17,22 @@ moves_data Compare = true
 moves_data WriteZeroes = false
 moves_data Verify = false
 moves_data Flush = false
+moves_data Deallocate = false
 moves_data (Admin command) = false
 
--- all but a Flush and an admin command name blocks
+-- a Deallocate names its blocks by ranges, which are its data
+abbrev pub names_ranges : Kind → Bool
+names_ranges Deallocate = true
+names_ranges kind = false
+
+-- so the data pointer of these four leads to a list of parts
+abbrev pub has_list : Kind → Bool
+has_list kind = moves_data kind || names_ranges kind
+
+-- all others but a Flush and an admin command name blocks in their entry
 abbrev pub names_blocks : Kind → Bool
 names_blocks Flush = false
+names_blocks Deallocate = false
 names_blocks (Admin command) = false
 names_blocks kind = true
 
@@ -46,7 +57,34 @@ opcode_of Compare = COMPARE
 opcode_of WriteZeroes = WRITE_ZEROES
 opcode_of Verify = VERIFY
 opcode_of Flush = FLUSH
+opcode_of Deallocate = DATASET_MANAGEMENT
 opcode_of (Admin command) = command.opcode
+
+-- a kind's name, as scripts have it
+abbrev pub kind_name : Kind → List ℕ
+kind_name Read = codes "read"
+kind_name Write = codes "write"
+kind_name Compare = codes "compare"
+kind_name WriteZeroes = codes "write_zeroes"
+kind_name Verify = codes "verify"
+kind_name Flush = codes "flush"
+kind_name Deallocate = codes "deallocate"
+kind_name (Admin command) = codes "admin"
+
+-- whether two kinds are one, and two commands' flags
+abbrev pub same_kind : Kind → Kind → Bool
+same_kind Read Read = true
+same_kind Write Write = true
+same_kind Compare Compare = true
+same_kind WriteZeroes WriteZeroes = true
+same_kind Verify Verify = true
+same_kind Flush Flush = true
+same_kind Deallocate Deallocate = true
+same_kind (Admin a) (Admin b) = same_command a b
+same_kind a b = false
+
+abbrev pub same_flags : Flags → Flags → Bool
+same_flags a b = beq a.force_unit_access b.force_unit_access && beq a.limited_retry b.limited_retry
 
 -- the bits of a command's flags in CDW12: Force Unit Access is bit 30, Limited Retry bit 31
 abbrev pub flag_bits : Flags → ℕ
@@ -69,16 +107,21 @@ abbrev pub counted_length : Kind → Piece → ℕ
 counted_length kind (Data offset len) = len
 counted_length Write (Bucket len) = 0
 counted_length Compare (Bucket len) = 0
+counted_length Deallocate (Bucket len) = 0
 counted_length kind (Bucket len) = len
 
 abbrev pub counted_lengths : Kind → List Piece → ℕ
 counted_lengths kind pieces = sum_by (counted_length kind) pieces
 
--- how many bytes the pieces of a command of so many blocks of a size are together: one that moves no data has no piece
-abbrev pub need_of : Kind → BlockSize → ℕ → ℕ
-need_of kind size blocks = if moves_data kind then block_bytes size * blocks else 0
+-- how many bytes so many ranges have, 16 each; what names none has no bytes of them
+abbrev pub need_of_ranges : Kind → ℕ → ℕ
+need_of_ranges kind ranges = if names_ranges kind then 16 * ranges else 0
 
--- what its pieces are: the bytes of its blocks, and for an admin command its page
+-- how many bytes the pieces of a command of so many blocks of a size, or so many ranges, are together: one without a list has no piece
+abbrev pub need_of : Kind → BlockSize → ℕ → ℕ
+need_of kind size blocks = if moves_data kind then block_bytes size * blocks else need_of_ranges kind blocks
+
+-- what its pieces are: the bytes of its blocks or ranges, and for an admin command its page
 abbrev pub has_its_bytes : Kind → BlockSize → ℕ → List Piece → Bool
 has_its_bytes (Admin command) size blocks pieces = has_its_page command.page pieces
 has_its_bytes kind size blocks pieces = counted_lengths kind pieces == need_of kind size blocks
@@ -88,9 +131,13 @@ abbrev pub is_hosts_own : Kind → Bool
 is_hosts_own (Admin command) = is_kept command
 is_hosts_own kind = false
 
--- a command has 1 block to 1 MiB of them, and none where it names none
+-- how many blocks it may have, or ranges
+abbrev pub most_of : Kind → BlockSize → ℕ
+most_of kind size = if names_ranges kind then 256 else most_blocks size
+
+-- a command has 1 block to 1 MiB of them, or 1 to 256 ranges, and none where it names none
 abbrev pub is_count : Kind → BlockSize → ℕ → Bool
-is_count kind size blocks = if names_blocks kind then not ((blocks == 0) || nat_lt (most_blocks size) blocks) else blocks == 0
+is_count kind size blocks = if names_blocks kind || names_ranges kind then not ((blocks == 0) || nat_lt (most_of kind size) blocks) else blocks == 0
 
 -- the data pages that pieces take, one for each data piece
 abbrev pub data_count : List Piece → ℕ

@@ -1,7 +1,7 @@
 //! Admin commands of the caller's own.
 
 ghost use Rattle.std.specs.Prelude.{◌≡◌};
-ghost use Rattle.io_commands.specs.Admin.{has_its_page as spec_has_its_page, has_page as spec_has_page, is_kept, page_pointer as spec_page_pointer};
+ghost use Rattle.io_commands.specs.Admin.{has_its_page as spec_has_its_page, has_page as spec_has_page, is_kept, page_pointer as spec_page_pointer, same_command, same_use};
 
 use crate::request::Piece;
 use entry_codec::{admin_opcode, feature};
@@ -24,6 +24,18 @@ impl PageUse {
         ensures { result ≡ spec_has_page self }
     {
         self != PageUse::Nothing
+    }
+
+    /// Whether another is the same.
+    fn is_same(self, other: PageUse) -> bool
+        ensures { result ≡ same_use self other }
+    {
+        match (self, other) {
+            (PageUse::Nothing, PageUse::Nothing)
+            | (PageUse::In, PageUse::In)
+            | (PageUse::Out, PageUse::Out) => true,
+            _ => false,
+        }
     }
 }
 
@@ -66,6 +78,20 @@ impl AdminCommand {
             admin_opcode::SET_FEATURES => self.cdw10 % 256 == feature::HOST_MEMORY_BUFFER,
             _ => false,
         }
+    }
+
+    /// Whether another is the same.
+    pub fn is_same(self, other: AdminCommand) -> bool
+        ensures { result ≡ same_command self other }
+    {
+        self.opcode == other.opcode
+            && self.page.is_same(other.page)
+            && self.cdw10 == other.cdw10
+            && self.cdw11 == other.cdw11
+            && self.cdw12 == other.cdw12
+            && self.cdw13 == other.cdw13
+            && self.cdw14 == other.cdw14
+            && self.cdw15 == other.cdw15
     }
 
     /// Whether pieces are what it moves: one data piece from the start of its page where it has a page, and else none.

@@ -110,6 +110,30 @@ pub(crate) fn push_data<A: Allocator, B: Allocator>(
     }
 }
 
+/// Lays the bytes of the data pieces at the front of others, one piece after the other.
+pub(crate) fn lay<A: Allocator>(pieces: &[Piece], pages: &[Page<A>], into: &mut [u8])
+    requires inside { list_any crosses_page pieces.now ≡ false }
+    requires enough { data_count pieces.now ≤ length pages.now }
+    requires room { sum_by data_length pieces.now ≤ length into.old }
+    ensures { into.new ≡ gathered pieces.now pages.now ++ drop (sum_by data_length pieces.now) into.old }
+{
+    let Some((piece, others)) = pieces.split_first() else {
+        return;
+    };
+    match *piece {
+        Piece::Bucket { .. } => lay(others, pages, into),
+        Piece::Data { offset, len } => {
+            if let Some((page, behind)) = pages.split_first() {
+                let start = offset as usize;
+                let here = &page.bytes()[start..start + len as usize];
+                let (front, rest) = into.split_at_mut(here.len());
+                front.copy_from_slice(here);
+                lay(others, behind, rest);
+            }
+        }
+    }
+}
+
 /// Whether bytes are those of the data pieces, one piece after the other. It copies none.
 #[tactic(auto, using(crate::proofs::Comparing::parts_equal, crate::proofs::Comparing::shorter_differs))]
 pub(crate) fn holds<A: Allocator>(pieces: &[Piece], pages: &[Page<A>], bytes: &[u8]) -> bool

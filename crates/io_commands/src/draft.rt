@@ -2,11 +2,11 @@
 
 ghost use Rattle.std.specs.Prelude.{◌≡◌, ◌≢◌, ◌<◌, ◌≤◌, ◌+◌, ◌-◌, ◌++◌, ◌↔◌, true, false, length, replicate, sum_by, Err, IfOk, OnOk, OnErr, None, Some};
 ghost use Rattle.io_commands.specs.declared.request.Kind.TheVariants.{Admin};
-ghost use Rattle.io_commands.specs.Requests.{brings_data, is_admin, joined_parts, moves_data, FitsRequest};
+ghost use Rattle.io_commands.specs.Requests.{brings_data, has_list, is_admin, joined_parts, FitsRequest};
 ghost use Rattle.io_commands.specs.DataBytes.{data_length, filled};
 ghost use Rattle.io_commands.specs.Values.{IsGood, numbers_of, data_part, chain_part};
 ghost use Rattle.io_commands.specs.Least.{pages_with};
-ghost use Rattle.io_commands.specs.Drafts.{built, caller_entry, IsDraft, SpellsItsParts, io_entry as spec_io_entry};
+ghost use Rattle.io_commands.specs.Drafts.{built, caller_entry, dword_10 as spec_dword_10, dword_11 as spec_dword_11, dword_12 as spec_dword_12, IsDraft, SpellsItsParts, io_entry as spec_io_entry};
 ghost use Rattle.io_commands.specs.Lent.{lends_data, bytes_of};
 ghost use Rattle.std.specs.Borrow.{sem};
 
@@ -223,8 +223,8 @@ impl<A: Allocator> Draft<A> {
         self.pages[i].bytes_mut()
     }
 
-    /// Lays the chain of the command's parts into the draft's own pages, and makes its entry; a command that moves no data has no
-    /// chain, nor has an admin command. A second build lays the same bytes. It takes no lock and reaches no store.
+    /// Lays the chain of the command's parts into the draft's own pages, and makes its entry; a command without a list
+    /// ([`Kind::has_list`]) has no chain. A second build lays the same bytes. It takes no lock and reaches no store.
     ///
     /// # Errors
     ///
@@ -235,9 +235,11 @@ impl<A: Allocator> Draft<A> {
         ensures refused { OnErr result (self.new ≡ self.old) }
     {
         match self.request.kind {
-            Kind::Read | Kind::Write | Kind::Compare => self.build_with_data(alloc),
+            Kind::Read | Kind::Write | Kind::Compare | Kind::Deallocate => {
+                self.build_with_list(alloc)
+            }
             Kind::WriteZeroes | Kind::Verify | Kind::Flush => {
-                self.build_without_data();
+                self.build_without_list();
                 Ok(())
             }
             Kind::Admin(command) => {
@@ -247,9 +249,9 @@ impl<A: Allocator> Draft<A> {
         }
     }
 
-    /// Lays the chain of a command that moves data, and makes its entry.
-    fn build_with_data<B: Allocator + Clone>(&mut self, alloc: B) -> Result<(), AllocError>
-        requires moves { moves_data self.old.request.kind ≡ true }
+    /// Lays the chain of a command with a list, and makes its entry.
+    fn build_with_list<B: Allocator + Clone>(&mut self, alloc: B) -> Result<(), AllocError>
+        requires list { has_list self.old.request.kind ≡ true }
         ensures built { OnOk result (self.new ≡ built self.old) }
         ensures spells { OnOk result (SpellsItsParts self.new) }
         ensures refused { OnErr result (self.new ≡ self.old) }
@@ -271,9 +273,9 @@ impl<A: Allocator> Draft<A> {
         self.entry = Some(admin_entry(self.cid, self.request.nsid, command, self.data_pages()));
     }
 
-    /// Makes the entry of a command of blocks that moves no data.
-    fn build_without_data(&mut self)
-        requires still { moves_data self.old.request.kind ≡ false }
+    /// Makes the entry of a command of blocks without a list.
+    fn build_without_list(&mut self)
+        requires still { has_list self.old.request.kind ≡ false }
         requires blocks { is_admin self.old.request.kind ≡ false }
         ensures built { self.new ≡ built self.old }
         ensures spells { SpellsItsParts self.new }
@@ -337,25 +339,58 @@ fn admin_entry<A: Allocator>(
     }
 }
 
-/// The entry that the driver sends for a request of blocks (NVM Command Set Specification 1.0, section 3.2): SGLs in the data pointer
-/// (PSDT 01b) where data moves, the request's namespace, the first block in CDW10 and CDW11, in CDW12 the number of blocks
-/// less one, if it names any, and the flags; all else zero (own).
+/// Command Dword 10: the low half of the first block; of ranges their number less one.
+fn dword_10<A: Allocator>(request: &Request<A>) -> u32
+    ensures { result ≡ spec_dword_10 request.now }
+{
+    if request.kind.names_ranges() {
+        request.blocks.saturating_sub(1)
+    } else {
+        (request.slba % (1 << 32)) as u32
+    }
+}
+
+/// Command Dword 11: the high half of the first block; of ranges the attribute Deallocate, bit 2.
+fn dword_11<A: Allocator>(request: &Request<A>) -> u32
+    ensures { result ≡ spec_dword_11 request.now }
+{
+    if request.kind.names_ranges() {
+        1 << 2
+    } else {
+        (request.slba >> 32) as u32
+    }
+}
+
+/// Command Dword 12: the number of blocks less one, if it names any, and the flags; of ranges nothing.
+fn dword_12<A: Allocator>(request: &Request<A>) -> u32
+    requires few { request.now.blocks ≤ 2048 }
+    ensures { result ≡ spec_dword_12 request.now }
+{
+    if request.kind.names_ranges() {
+        0
+    } else {
+        request.blocks.saturating_sub(1) + request.flags.bits()
+    }
+}
+
+/// The entry that the driver sends for a request of blocks or ranges (NVM Command Set Specification 1.0, section 3.2): SGLs in the data
+/// pointer (PSDT 01b) where there is a list, the request's namespace, and its first three words; all else zero (own).
 fn io_entry<A: Allocator>(cid: u16, request: &Request<A>, sgl1: [u8; 16]) -> SubEntry
     requires few { request.now.blocks ≤ 2048 }
     ensures { result ≡ spec_io_entry cid request.now sgl1 }
 {
-    let moves_data = request.kind.moves_data();
+    let has_list = request.kind.has_list();
     SubEntry {
         opcode: request.kind.opcode(),
         fuse: 0,
-        psdt: if moves_data { 1 } else { 0 },
+        psdt: if has_list { 1 } else { 0 },
         cid,
         nsid: request.nsid,
         mptr: 0,
-        sgl1: if moves_data { sgl1 } else { [0; 16] },
-        cdw10: (request.slba % (1 << 32)) as u32,
-        cdw11: (request.slba >> 32) as u32,
-        cdw12: request.blocks.saturating_sub(1) + request.flags.bits(),
+        sgl1: if has_list { sgl1 } else { [0; 16] },
+        cdw10: dword_10(request),
+        cdw11: dword_11(request),
+        cdw12: dword_12(request),
         cdw13: 0,
         cdw14: 0,
         cdw15: 0,

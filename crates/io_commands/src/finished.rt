@@ -1,13 +1,13 @@
 //! A command that has ended, with its pages taken out again.
 
-ghost use Rattle.std.specs.Prelude.{◌≡◌, ◌<◌, ◌≤◌, ◌++◌, length, IfOk, OnErr, []};
+ghost use Rattle.std.specs.Prelude.{◌≡◌, ◌<◌, ◌≤◌, ◌++◌, drop, length, IfOk, IfNone, IfSome, OnErr, []};
 ghost use Rattle.std.specs.Str.{bytes_eq};
 ghost use Rattle.io_commands.specs.Requests.{data_count};
 ghost use Rattle.io_commands.specs.DataBytes.{gathered};
 ghost use Rattle.io_commands.specs.Lent.{bytes_of};
 ghost use Rattle.io_commands.specs.Values.{IsGood, data_part, chain_part, gathered_from, gathered_length};
 
-use crate::data_bytes::{holds, push_data};
+use crate::data_bytes::{holds, lay, push_data};
 use crate::request::{Kind, Request};
 use entry_codec::{Hints, Status};
 use page_memory::Page;
@@ -162,6 +162,26 @@ impl<A: Allocator> Finished<A> {
             &mut bytes,
         )?;
         Ok(bytes)
+    }
+
+    /// Lays the bytes that [`Finished::gather`] would bring at the front of a buffer: how many they are; none, and nothing is laid, where
+    /// the buffer is too short. It takes no memory.
+    pub fn gather_into(&self, into: &mut [u8]) -> Option<usize>
+        ensures laid { IfSome result (λ n. into.new ≡ gathered_from self.now ++ drop n into.old) }
+        ensures count { IfSome result (λ n. n ≡ length (gathered_from self.now)) }
+        ensures short { IfNone result (length into.old < gathered_length self.now.request.kind self.now.request.pieces) }
+        ensures kept { IfNone result (into.new ≡ into.old) }
+    {
+        if !self.request.kind.brings_data() {
+            return Some(0);
+        }
+        let count = self.request.data_bytes() as usize;
+        if into.len() < count {
+            return None;
+        }
+        let data = self.request.pieces.data_pages();
+        lay(self.request.pieces.as_slice(), &self.pages[..data], into);
+        Some(count)
     }
 
     /// Whether these are the bytes that [`Finished::gather`] would bring. It takes no memory, and copies nothing.

@@ -3,12 +3,13 @@
 ghost use Rattle.std.specs.Prelude.{◌≡◌, ◌∷◌, [], ℕ, List, None, Some, replicate};
 ghost use Rattle.io_commands.specs.declared.request.Piece.{Piece};
 ghost use Rattle.io_commands.specs.declared.request.Piece.TheVariants.{Data, Bucket};
-ghost use Rattle.io_commands.specs.Drafts.{caller_entry, DraftsCarryTheirEntry, BuiltDraftsSpell};
+ghost use Rattle.io_commands.specs.Drafts.{caller_entry, io_entry, DraftsCarryTheirEntry, BuiltDraftsSpell};
 ghost use Rattle.io_commands.specs.Requests.{fault_of};
-ghost use Rattle.io_commands.specs.Worked.{command};
+ghost use Rattle.io_commands.specs.Worked.{command, deallocate};
+ghost use Rattle.io_commands.specs.Ranges.{range_bytes};
 ghost use Rattle.io_commands.specs.declared.admin.PageUse.TheVariants.{Nothing, In, Out};
-ghost use Rattle.io_commands.specs.declared.block_size.BlockSize.TheVariants.{Bytes512};
-ghost use Rattle.io_commands.specs.declared.request.{Kind.TheVariants.Admin, RequestFault.TheVariants.{LengthMismatch, HostsOwn}};
+ghost use Rattle.io_commands.specs.declared.block_size.BlockSize.TheVariants.{Bytes512, Bytes4096};
+ghost use Rattle.io_commands.specs.declared.request.{Kind.TheVariants.{Admin, Deallocate}, RequestFault.TheVariants.{BadCount, LengthMismatch, HostsOwn}};
 ghost use Rattle.io_commands.specs.Least.{least_pages, LeastIsBetween, LeastAnywhere, LeastOfAll};
 
 use sgl_chain::laws::laid_chains_spell;
@@ -44,6 +45,22 @@ pub fn worked_admin_commands()
     ensures buffer { fault_of (Admin (command 0x09 Nothing 0x8000000D)) Bytes512 0 [] ≡ Some HostsOwn }
     ensures delete { fault_of (Admin (command 0x00 Nothing 1)) Bytes512 0 [] ≡ Some HostsOwn }
     ensures doorbells { fault_of (Admin (command 0x7C Out 0)) Bytes512 0 (Data 0 4096 ∷ []) ≡ Some HostsOwn }
+{}
+
+/// A few Deallocates: two ranges have 32 bytes, of any buckets none count, and there are at most 256. The entry has one range less than there
+/// are, and the attribute Deallocate; a range has its number of blocks before its first block.
+pub fn worked_ranges()
+    ensures two { fault_of Deallocate Bytes4096 2 (Data 0 32 ∷ []) ≡ None }
+    ensures apart { fault_of Deallocate Bytes512 2 (Data 4080 16 ∷ Bucket 512 ∷ Data 0 16 ∷ []) ≡ None }
+    ensures more { fault_of Deallocate Bytes512 2 (Data 0 48 ∷ []) ≡ Some LengthMismatch }
+    ensures no_range { fault_of Deallocate Bytes512 0 [] ≡ Some BadCount }
+    ensures most { fault_of Deallocate Bytes512 256 (Data 0 4096 ∷ []) ≡ None }
+    ensures too_many { fault_of Deallocate Bytes512 257 (Data 0 4096 ∷ Data 0 16 ∷ []) ≡ Some BadCount }
+    ensures opcode { (io_entry 3 deallocate (replicate 16 0)).opcode ≡ 0x09 }
+    ensures number { (io_entry 3 deallocate (replicate 16 0)).cdw10 ≡ 1 }
+    ensures attribute { (io_entry 3 deallocate (replicate 16 0)).cdw11 ≡ 4 }
+    ensures no_blocks { (io_entry 3 deallocate (replicate 16 0)).cdw12 ≡ 0 }
+    ensures bytes { range_bytes (record { slba = 0x0102; blocks = 8 }) ≡ 0 ∷ 0 ∷ 0 ∷ 0 ∷ 8 ∷ 0 ∷ 0 ∷ 0 ∷ 2 ∷ 1 ∷ replicate 6 0 }
 {}
 
 /// The fewest pages of a few requests: whole pages need no chain; pieces that leave a gap, and those beside a bucket, do.

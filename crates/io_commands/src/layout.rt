@@ -1,7 +1,7 @@
 //! The parts of a command in its pages, and its chain laid in them.
 
 ghost use Rattle.std.specs.Prelude.{◌≡◌, ◌≤◌, ◌<◌, ◌+◌, ◌*◌, ◌++◌, ◌∷◌, [], true, length, take, drop, IfOk, IfSome, MatchOption};
-ghost use Rattle.io_commands.specs.Requests.{joined_parts, moves_data, parts_of};
+ghost use Rattle.io_commands.specs.Requests.{has_list, joined_parts, parts_of};
 ghost use Rattle.io_commands.specs.Values.{numbers_of as spec_numbers_of, IsGood, data_part, chain_part};
 ghost use Rattle.io_commands.specs.Least.{pages_with};
 ghost use Rattle.sgl_descriptor.specs.declared.Part.TheVariants as part;
@@ -115,7 +115,7 @@ impl<P: Allocator> Request<P> {
     }
 }
 
-/// The chain of a request that moves data in its pages, of which those of the data pieces come first.
+/// The chain of a request with a list in its pages, of which those of the data pieces come first.
 pub(crate) fn chain_of<A: Allocator + Clone, B: Allocator>(
     alloc: A,
     request: &Request<B>,
@@ -123,7 +123,7 @@ pub(crate) fn chain_of<A: Allocator + Clone, B: Allocator>(
     segment: usize,
 ) -> Result<Chain<A>, AllocError>
     requires good { IsGood request.now }
-    requires moves { moves_data request.now.kind ≡ true }
+    requires list { has_list request.now.kind ≡ true }
     requires low { 2 ≤ segment }
     requires high { segment ≤ 256 }
     requires pages { length pages.now ≡ pages_with request.now.pieces segment (joined_parts request.now.pieces (spec_numbers_of (data_part request.now pages.now))) }

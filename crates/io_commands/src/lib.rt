@@ -14,6 +14,7 @@ mod job;
 pub mod laws;
 mod layout;
 mod least;
+mod range;
 mod request;
 mod ticket;
 
@@ -22,7 +23,9 @@ pub use block_size::BlockSize;
 pub use draft::{Draft, DraftParts, FillFault};
 pub use finished::{Finished, FinishedParts};
 pub use job::{Job, begin_job, block_number, finish_job, first_block, first_bytes, kind_of};
+pub use range::BlockRange;
 pub use request::{
-    Flags, Kind, MAX_COMMAND_BLOCKS, MAX_PIECES, Piece, Pieces, Request, RequestFault, RequestOf,
+    Flags, Kind, MAX_COMMAND_BLOCKS, MAX_PIECES, MAX_RANGES, Piece, Pieces, Request, RequestFault,
+    RequestOf,
 };
 pub use ticket::Ticket;

@@ -4,7 +4,7 @@ ghost use Rattle.std.specs.Prelude.{◌≡◌, ◌≤◌, ◌∷◌, ◌++◌, [
 ghost use Rattle.std.specs.Result.{result_err};
 ghost use Rattle.io_commands.specs.BlockSizes.{most_blocks};
 ghost use Rattle.io_commands.specs.DataBytes.{data_length};
-ghost use Rattle.io_commands.specs.Requests.{moves_data as spec_moves_data, names_blocks as spec_names_blocks, is_admin as spec_is_admin, brings_data as spec_brings_data, direction_of, opcode_of, need_of, is_count, is_hosts_own, has_its_bytes as spec_has_its_bytes, is_empty_piece, crosses_page as spec_crosses_page, is_data as spec_is_data, counted_length, counted_lengths, data_count, fault_of, flag_bits, FitsPiece, FitsRequest};
+ghost use Rattle.io_commands.specs.Requests.{moves_data as spec_moves_data, names_ranges as spec_names_ranges, has_list as spec_has_list, names_blocks as spec_names_blocks, kind_name, same_kind, same_flags, is_admin as spec_is_admin, brings_data as spec_brings_data, direction_of, opcode_of, need_of, most_of, is_count, is_hosts_own, has_its_bytes as spec_has_its_bytes, is_empty_piece, crosses_page as spec_crosses_page, is_data as spec_is_data, counted_length, counted_lengths, data_count, fault_of, flag_bits, FitsPiece, FitsRequest};
 
 use crate::admin::{AdminCommand, PageUse};
 use crate::block_size::BlockSize;
@@ -19,6 +19,9 @@ pub const MAX_PIECES: usize = 1_024;
 
 /// The most blocks that a command has, of 512 bytes each (own).
 pub const MAX_COMMAND_BLOCKS: u32 = 2_048;
+
+/// The most ranges of a Deallocate (NVM Command Set Specification 1.0, Dataset Management, Number of Ranges).
+pub const MAX_RANGES: u32 = 256;
 
 /// Which command: an I/O command (NVM Command Set Specification 1.0, section 3.2), or an admin command of the caller's own.
 #[derive(Clone, Copy, Debug, PartialEq, Eq)]
@@ -35,6 +38,11 @@ pub enum Kind {
     Verify,
     /// What was written goes to non-volatile media. It names no blocks, and moves no data.
     Flush,
+    /// Blocks are not needed any more: Dataset Management with the attribute Deallocate. Its data is ranges of blocks, each a
+    /// [`BlockRange`]'s 16 bytes.
+    ///
+    /// [`BlockRange`]: crate::BlockRange
+    Deallocate,
     /// An admin command, of queue 0. It names no blocks, and its data is not theirs.
     Admin(AdminCommand),
 }
@@ -47,11 +55,25 @@ impl Kind {
         matches!(self, Kind::Read | Kind::Write | Kind::Compare)
     }
 
-    /// Whether it names blocks.
+    /// Whether it names blocks in its entry.
     pub fn names_blocks(self) -> bool
         ensures { result ≡ spec_names_blocks self }
     {
-        !matches!(self, Kind::Flush | Kind::Admin(_))
+        !matches!(self, Kind::Flush | Kind::Deallocate | Kind::Admin(_))
+    }
+
+    /// Whether it names blocks by ranges, which are its data.
+    pub fn names_ranges(self) -> bool
+        ensures { result ≡ spec_names_ranges self }
+    {
+        matches!(self, Kind::Deallocate)
+    }
+
+    /// Whether its data pointer leads to a list of parts.
+    pub fn has_list(self) -> bool
+        ensures { result ≡ spec_has_list self }
+    {
+        self.moves_data() || self.names_ranges()
     }
 
     /// Whether it is an admin command, of queue 0.
@@ -94,34 +116,81 @@ impl Kind {
             Kind::WriteZeroes => io_opcode::WRITE_ZEROES,
             Kind::Verify => io_opcode::VERIFY,
             Kind::Flush => io_opcode::FLUSH,
+            Kind::Deallocate => io_opcode::DATASET_MANAGEMENT,
             Kind::Admin(command) => command.opcode,
         }
     }
 
-    /// Whether a command has so many blocks of a size: one to 1 MiB of them, and none where it names none.
+    /// Its name, as scripts have it.
+    pub fn name(self) -> &'static str
+        ensures { result.now ≡ kind_name self }
+    {
+        match self {
+            Kind::Read => "read",
+            Kind::Write => "write",
+            Kind::Compare => "compare",
+            Kind::WriteZeroes => "write_zeroes",
+            Kind::Verify => "verify",
+            Kind::Flush => "flush",
+            Kind::Deallocate => "deallocate",
+            Kind::Admin(_) => "admin",
+        }
+    }
+
+    /// Whether another is the same, an admin command's words among it.
+    pub fn is_same(self, other: Kind) -> bool
+        ensures { result ≡ same_kind self other }
+    {
+        match (self, other) {
+            (Kind::Read, Kind::Read)
+            | (Kind::Write, Kind::Write)
+            | (Kind::Compare, Kind::Compare)
+            | (Kind::WriteZeroes, Kind::WriteZeroes)
+            | (Kind::Verify, Kind::Verify)
+            | (Kind::Flush, Kind::Flush)
+            | (Kind::Deallocate, Kind::Deallocate) => true,
+            (Kind::Admin(a), Kind::Admin(b)) => a.is_same(b),
+            _ => false,
+        }
+    }
+
+    /// How many blocks of a size a command may have, or ranges.
+    fn most(self, size: BlockSize) -> u32
+        ensures { result ≡ most_of self size }
+    {
+        if self.names_ranges() {
+            MAX_RANGES
+        } else {
+            size.most_blocks()
+        }
+    }
+
+    /// Whether a command has so many blocks of a size, one to 1 MiB of them, or so many ranges, and none where it names none.
     fn has_count(self, size: BlockSize, blocks: u32) -> bool
         ensures { result ≡ is_count self size blocks }
     {
-        if self.names_blocks() {
-            blocks != 0 && blocks <= size.most_blocks()
+        if self.names_blocks() || self.names_ranges() {
+            blocks != 0 && blocks <= self.most(size)
         } else {
             blocks == 0
         }
     }
 
-    /// How many bytes the pieces of a command of so many blocks of a size are together.
+    /// How many bytes the pieces of a command of so many blocks of a size, or so many ranges, are together.
     fn need(self, size: BlockSize, blocks: u32) -> u64
         requires { blocks ≤ most_blocks size }
         ensures { result ≡ need_of self size blocks }
     {
         if self.moves_data() {
             u64::from(size.bytes_of(blocks))
+        } else if self.names_ranges() {
+            16 * u64::from(blocks)
         } else {
             0
         }
     }
 
-    /// Whether pieces, of which so many bytes count, are what a command of so many blocks of a size moves.
+    /// Whether pieces, of which so many bytes count, are what a command of so many blocks of a size, or so many ranges, moves.
     fn has_its_bytes(self, size: BlockSize, blocks: u32, pieces: &[Piece], counted: u64) -> bool
         requires few { blocks ≤ most_blocks size }
         requires counted { counted ≡ counted_lengths self pieces.now }
@@ -169,6 +238,14 @@ impl Flags {
         let limited_retry = if self.limited_retry { 1 << 31 } else { 0 };
         force_unit_access + limited_retry
     }
+
+    /// Whether others are the same.
+    pub fn is_same(self, other: Flags) -> bool
+        ensures { result ≡ same_flags self other }
+    {
+        self.force_unit_access == other.force_unit_access
+            && self.limited_retry == other.limited_retry
+    }
 }
 
 /// A piece of a command's data.
@@ -181,7 +258,7 @@ pub enum Piece {
         /// How many there are.
         len: u32,
     },
-    /// `len` bytes that a Read discards. In a Write or a Compare it has no effect.
+    /// `len` bytes that a Read discards. Where data goes from the host it has no effect.
     Bucket {
         /// How many bytes are discarded.
         len: u32,
@@ -225,12 +302,12 @@ impl Piece {
         }
     }
 
-    /// How many bytes of a command of this kind it is: a Write and a Compare pass a bucket over.
+    /// How many bytes of a command of this kind it is: a bucket is passed over where data goes from the host.
     pub fn counted(self, kind: Kind) -> u32
         ensures { result ≡ counted_length kind self }
     {
         match (self, kind) {
-            (Piece::Bucket { .. }, Kind::Write | Kind::Compare) => 0,
+            (Piece::Bucket { .. }, Kind::Write | Kind::Compare | Kind::Deallocate) => 0,
             (Piece::Data { len, .. } | Piece::Bucket { len }, _) => len,
         }
     }
@@ -371,11 +448,11 @@ pub enum RequestFault {
     /// A data piece passes the end of its page.
     #[error("a data piece passes the end of its page")]
     CrossesPage,
-    /// There are no blocks, or more than 1 MiB of them; or a command that names none has blocks.
-    #[error("a command has a block to 1 MiB of them, and a Flush none")]
+    /// There are no blocks, or more than 1 MiB of them; no ranges, or more than 256; or a command that names none has some.
+    #[error("a command has a block to 1 MiB of them, a Deallocate 1 to 256 ranges, and a Flush none")]
     BadCount,
-    /// The pieces that count are not the bytes of the blocks; a command that moves no data has a piece; or the data of an admin
-    /// command is not one piece from the start of its page.
+    /// The pieces that count are not the bytes of the blocks, or of the ranges; a command without data has a piece; or the data of an
+    /// admin command is not one piece from the start of its page.
     #[error("the lengths of the pieces are not the bytes of the blocks")]
     LengthMismatch,
     /// It is an admin command that the host keeps to itself ([`AdminCommand::is_hosts_own`]).
@@ -385,7 +462,9 @@ pub enum RequestFault {
 
 /// What a host asks for: `blocks` blocks of a size from `slba` on, and the pieces of memory that take part, none where
 /// no data moves. A Flush has no blocks, and its `slba` and flags, which the standard reserves, are to be 0 and
-/// [`Flags::NONE`]. An admin command has no blocks, and its words in place of `slba` and flags. A host writes it as [`Request`]; contracts see the pieces as a list, whatever holds them.
+/// [`Flags::NONE`]. Of a Deallocate `blocks` counts the ranges, and its entry has neither `slba` nor flags. An admin command has no
+/// blocks, and its words in place of `slba` and flags. A host writes it as [`Request`]; contracts see the pieces as a list, whatever
+/// holds them.
 #[derive(Debug, Drop)]
 pub struct RequestOf<P> {
     /// Which command.
@@ -398,7 +477,7 @@ pub struct RequestOf<P> {
     pub slba: u64,
     /// How many bytes a block of the namespace has.
     pub block_size: BlockSize,
-    /// How many blocks.
+    /// How many blocks, or ranges.
     pub blocks: u32,
     /// The pieces, in the order of the data.
     pub pieces: P,

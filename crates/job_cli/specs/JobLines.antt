@@ -3,19 +3,10 @@ use Rattle.std.specs.{Fmt.decimal, Prelude.{ℕ, ◌+◌, Bool, false, not, List
 use Rattle.driver_threads.specs.{Values.JobEnd, declared.jobs.JobRefusal.JobRefusal}
 use Rattle.entry_codec.specs.Status.{is_success}
 use Rattle.entry_codec.specs.Status.{status_text}
-use Rattle.io_commands.specs.declared.{draft.FillFault.TheVariants.WrongLength, request.Kind.{Kind, TheVariants.{Read, Write, Compare, WriteZeroes, Verify, Flush, Admin}}}
+use Rattle.io_commands.specs.{Requests.kind_name, declared.{draft.FillFault.TheVariants.WrongLength, request.Kind.Kind}}
 use Rattle.script_cli.specs.Replies.{gathered_text, request_fault_name, fill_fault_name}
 use Rattle.driver_threads.specs.declared.jobs.JobEnd.TheVariants as end
 use Rattle.driver_threads.specs.declared.jobs.JobRefusal.TheVariants as refusal
-
-abbrev pub kind_text : Kind → List ℕ
-kind_text Read = codes "read"
-kind_text Write = codes "write"
-kind_text Compare = codes "compare"
-kind_text WriteZeroes = codes "write_zeroes"
-kind_text Verify = codes "verify"
-kind_text Flush = codes "flush"
-kind_text (Admin command) = codes "admin"
 
 abbrev pub too_few_text : ℕ → ℕ → List ℕ
 too_few_text need pool = codes "refused NoPages need " ++ (decimal need ++ (codes " pool " ++ decimal pool))
@@ -35,7 +26,7 @@ job_end_text (end.Refused why) = job_refusal_text why
 -- the line of a job, with its line feed
 abbrev pub job_text : ℕ → ℕ → Kind → JobEnd → List ℕ
 job_text number seat kind what =
-    decimal number ++ (codes " seat " ++ (decimal seat ++ (codes " " ++ (kind_text kind ++ (codes " " ++ (job_end_text what ++ (10 ∷ [])))))))
+    decimal number ++ (codes " seat " ++ (decimal seat ++ (codes " " ++ (kind_name kind ++ (codes " " ++ (job_end_text what ++ (10 ∷ [])))))))
 
 -- it was not refused, and its status is 0:00
 abbrev pub is_well_end : JobEnd → Bool

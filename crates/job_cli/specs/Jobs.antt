@@ -1,6 +1,6 @@
 -- What a script of jobs is, or its first fault. Its lines and words are cut, and stand for values, as those of a script of steps.
-use Rattle.std.specs.{Prelude.{ℕ, ◌^◌, ◌+◌, ◌≡◌, nat_lt, Option, Some, None, Result, Ok, Err, List, [], ◌∷◌, ◌++◌, length, codes, if◌then◌else◌}, Str.bytes_eq}
-use Rattle.io_commands.specs.{Asked.Request, declared.request.{Kind.{Kind, TheVariants.{Write, Compare}}, Piece.Piece}}
+use Rattle.std.specs.{Prelude.{ℕ, ◌^◌, ◌+◌, ◌≡◌, ◌&&◌, not, nat_lt, Option, Some, None, Result, Ok, Err, List, [], ◌∷◌, ◌++◌, length, codes, if◌then◌else◌}, Str.bytes_eq}
+use Rattle.io_commands.specs.{Asked.Request, Requests.{brings_data, has_list}, declared.request.{Kind.Kind, Piece.Piece}}
 use Rattle.script_cli.specs.{Grammar.{Words, ◌>>=◌, number_word, kind_word, hex_word, request_of, request_words, begins_comment, words_of}, Lines.lines}
 use Rattle.script_cli.specs.declared.fault.{LineFault.{LineFault, TheVariants.{UnknownVerb, TooManyLines}}, ScriptFault.ScriptFault}
 use Rattle.job_cli.specs.declared.jobs.{JobHead.JobHead, JobLine.JobLine}
@@ -21,11 +21,9 @@ head_words submitters ws = do
   blocks ← number_word (2 ^ 32) slba.1
   Ok (head submitter.0 q.0 kind.0 slba.0 blocks.0, blocks.1)
 
--- the bytes of a Write or a Compare; another command has none
+-- the bytes of a command with a list that brings none; another has no bytes
 unfoldable pub data_words : Kind → Words → Result (List ℕ × Words) LineFault
-data_words Write ws = hex_word ws
-data_words Compare ws = hex_word ws
-data_words kind ws = Ok ([], ws)
+data_words kind ws = if has_list kind && not (brings_data kind) then hex_word ws else Ok ([], ws)
 
 abbrev pub job_of : ℕ → JobHead → Request → List ℕ → JobLine
 job_of number head request bytes = record { number = number; submitter = head.submitter; job = record { q = head.q; request = request; bytes = bytes } }

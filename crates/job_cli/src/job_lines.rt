@@ -2,7 +2,7 @@
 
 ghost use Rattle.std.specs.Prelude.{◌≡◌, ◌++◌, OnOk, string_bytes, codes};
 ghost use Rattle.entry_codec.specs.Status.{status_text};
-ghost use Rattle.job_cli.specs.JobLines.{kind_text, too_few_text, job_refusal_text, job_end_text, job_text, is_well_end as spec_is_well_end, unwell_among as spec_unwell_among, unwell_in};
+ghost use Rattle.job_cli.specs.JobLines.{too_few_text, job_refusal_text, job_end_text, job_text, is_well_end as spec_is_well_end, unwell_among as spec_unwell_among, unwell_in};
 ghost use Rattle.script_cli.specs.Replies.{gathered_text, request_fault_name as spec_request_fault_name};
 
 use driver_threads::{JobEnd, JobEnds, JobRefusal};
@@ -11,21 +11,6 @@ use io_commands::{FillFault, Kind, RequestFault};
 use script_cli::{put_gathered, put_not_filled, request_fault_name};
 use std::alloc::AllocError;
 use step_core::Bytes;
-
-/// The word of a kind of command.
-pub(crate) fn kind_name(kind: Kind) -> &'static str
-    ensures { result.now ≡ kind_text kind }
-{
-    match kind {
-        Kind::Read => "read",
-        Kind::Write => "write",
-        Kind::Compare => "compare",
-        Kind::WriteZeroes => "write_zeroes",
-        Kind::Verify => "verify",
-        Kind::Flush => "flush",
-        Kind::Admin(_) => "admin",
-    }
-}
 
 /// Puts how a command ended, and what it gathered.
 fn put_done(out: &mut String, status: Status, bytes: &Bytes) -> Result<(), AllocError>
@@ -88,7 +73,7 @@ pub fn append_job_line(
 ) -> Result<(), AllocError>
     ensures { OnOk result (string_bytes out.new ≡ string_bytes out.old ++ job_text number seat kind end.now) }
 {
-    let name = kind_name(kind);
+    let name = kind.name();
     write!(out, "{number} seat {seat} {name} ")?;
     put_job_end(out, end)?;
     out.push_str("\n")

@@ -90,9 +90,10 @@ fn job_head(submitters: u16, words: &mut Words<'_>) -> Result<JobHead, LineFault
 fn job_bytes(alloc: Global, kind: Kind, words: &mut Words<'_>) -> Result<Bytes, LineError>
     ensures { MatchResult result (λ b. data_words kind words.old ≡ Ok (b, words.new)) (IsErrorOf (data_words kind words.old)) }
 {
-    match kind {
-        Kind::Write | Kind::Compare => words.bytes(alloc),
-        _ => Ok(Bytes::from_vec(Vec::new(alloc))),
+    if kind.has_list() && !kind.brings_data() {
+        words.bytes(alloc)
+    } else {
+        Ok(Bytes::from_vec(Vec::new(alloc)))
     }
 }
 

@@ -1,6 +1,6 @@
 //! How a job ended, as an object of JSON.
 
-use crate::job_lines::{is_well_end, kind_name};
+use crate::job_lines::is_well_end;
 use crate::job_runs::Heading;
 use driver_threads::{JobEnd, JobRefusal};
 use entry_codec::Status;
@@ -43,7 +43,7 @@ impl JobObject {
         JobObject {
             line: heading.number,
             seat: heading.submitter,
-            kind: kind_name(heading.kind),
+            kind: heading.kind.name(),
             well,
             answer,
             status: None,

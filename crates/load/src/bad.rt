@@ -45,15 +45,7 @@ pub struct Bad {
 
 impl fmt::Display for Bad {
     fn fmt<W: fmt::Write>(&self, f: &mut fmt::Formatter<W>) -> fmt::Result {
-        let name = match self.kind {
-            Kind::Read => "read",
-            Kind::Write => "write",
-            Kind::Compare => "compare",
-            Kind::WriteZeroes => "write_zeroes",
-            Kind::Verify => "verify",
-            Kind::Flush => "flush",
-            Kind::Admin(_) => "admin",
-        };
+        let name = self.kind.name();
         let Bad {
             slba,
             blocks,

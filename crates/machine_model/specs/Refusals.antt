@@ -1,5 +1,5 @@
 -- Which refusal an event meets: the first cause that holds, in the order of the checks.
-use Rattle.std.specs.{Bool.beq, Cmp.Lexicographic.pointwise, List.list_any, Option.{option_map, option_map_or}}
+use Rattle.std.specs.{Cmp.Lexicographic.pointwise, List.list_any, Option.{option_map, option_map_or}}
 use Rattle.std.specs.Prelude.{ℕ, ◌+◌, ◌*◌, ◌-◌, ◌/◌, ◌%◌, ◌==◌, nat_lt, nat_le, Bool, true, false, ◌&&◌, ◌||◌, not, Option, Some, None, List, [], ◌∷◌, length, find, is_some, is_none, slice_get, slice_index, slice_range, option_and_then, if◌then◌else◌, nat_eq}
 use Rattle.machine_model.specs.{Commands.{Work, Io, Management}, Events.{Event, Refusal}, Memory.is_in, Placement.{wanted_of, first_of_run}}
 use Rattle.machine_model.specs.State.{State, HostQueue, HostState, Live, Deleting, Retired, Gone, MakingCq, HalfMade, MakingSq, ServedQueue, Record, Phase, Drafted, Submitted, Held, Collected, Job, PostedCompletion, record_at, outstanding_on}
@@ -7,8 +7,8 @@ use Rattle.page_memory.specs.{Pages.{Pages, page_at}, declared.page.Half.{Half, 
 use Rattle.entry_codec.specs.{Completion.completion_of, Status.is_success, declared.{admin_opcode.TheConstants.DELETE_IO_SQ, completion.ComEntry.ComEntry, hints.TheConstants.Hints.NONE}}
 use Rattle.entry_codec.specs.declared.submission.SubEntry.{SubEntry}
 use Rattle.admin_commands.specs.{Entries.named_queue, Verdicts.is_live as is_running, declared.AdminKind.TheVariants.{DeleteSq, DeleteCq, CreateCq, CreateSq}}
-use Rattle.io_commands.specs.{Asked.Request, BlockSizes.block_bytes, Requests.{fault_of, is_admin}, Values.numbers_of, declared.{admin.{AdminCommand.AdminCommand, PageUse.{PageUse, TheVariants.{Nothing, In, Out}}}, request.{Flags.Flags, Kind.Kind}}}
-use Rattle.io_commands.specs.declared.request.{Kind.TheVariants.{Read, Write, Compare, WriteZeroes, Verify, Flush, Admin}, Piece.{Piece, TheVariants.{Data, Bucket}}, RequestFault.RequestFault}
+use Rattle.io_commands.specs.{Asked.Request, BlockSizes.block_bytes, Requests.{fault_of, is_admin, same_flags, same_kind}, Values.numbers_of}
+use Rattle.io_commands.specs.declared.request.{Kind.Kind, Piece.{Piece, TheVariants.{Data, Bucket}}, RequestFault.RequestFault}
 use Rattle.controller_walk.specs.Units.{first_passing}
 use Rattle.queue_pair.specs.{Memory.{with_phase, half_pages}, Slots.{is_full, moved}}
 use Rattle.io_commands.specs.declared.block_size.BlockSize.{BlockSize, TheVariants.{Bytes512}}
@@ -137,29 +137,6 @@ same_pieces [] [] = true
 same_pieces [] (y ∷ ys) = false
 same_pieces (x ∷ xs) [] = false
 same_pieces (x ∷ xs) (y ∷ ys) = same_piece x y && same_pieces xs ys
-
-abbrev pub same_use : PageUse → PageUse → Bool
-same_use Nothing Nothing = true
-same_use In In = true
-same_use Out Out = true
-same_use a b = false
-
-abbrev pub same_command : AdminCommand → AdminCommand → Bool
-same_command a b =
-    (a.opcode == b.opcode) && same_use a.page b.page && (a.cdw10 == b.cdw10) && (a.cdw11 == b.cdw11) && (a.cdw12 == b.cdw12) && (a.cdw13 == b.cdw13) && (a.cdw14 == b.cdw14) && (a.cdw15 == b.cdw15)
-
-abbrev pub same_kind : Kind → Kind → Bool
-same_kind Read Read = true
-same_kind Write Write = true
-same_kind Compare Compare = true
-same_kind WriteZeroes WriteZeroes = true
-same_kind Verify Verify = true
-same_kind Flush Flush = true
-same_kind (Admin a) (Admin b) = same_command a b
-same_kind a b = false
-
-abbrev pub same_flags : Flags → Flags → Bool
-same_flags a b = beq a.force_unit_access b.force_unit_access && beq a.limited_retry b.limited_retry
 
 abbrev pub same_request : Request → Request → Bool
 same_request a b =

@@ -5,7 +5,7 @@ use Rattle.sgl_descriptor.specs.{Spelling.{spelling, descriptor_of}, declared.De
 use Rattle.sgl_chain.specs.Spells.{Spells}
 use Rattle.controller_walk.specs.{Units.{units, verdict}, declared.walk.WalkState.TheVariants.End}
 use Rattle.entry_codec.specs.declared.submission.SubEntry.{SubEntry}
-use Rattle.io_commands.specs.{Asked.Request, Drafts.io_entry, Requests.{data_count, is_admin, joined_parts, moves_data, FitsRequest}, Values.IsGood}
+use Rattle.io_commands.specs.{Asked.Request, Drafts.io_entry, Requests.{data_count, has_list, is_admin, joined_parts, moves_data, FitsRequest}, Values.IsGood}
 use Rattle.io_commands.specs.declared.block_size.BlockSize.TheVariants.{Bytes512}
 use Rattle.page_memory.specs.Pages.{Pages, byte_at}
 use Rattle.machine_model.specs.{After.course_of, Commands.{Work, Io, Management}, Reached.{only, on_pages, KeepsToPages}, Refusals.is_submitted}
@@ -29,11 +29,11 @@ pub record HasEntry (queues : List ServedQueue) (jobs : List Job) (q cid : ℕ) 
   pub unfetched : AllByRecursion (λ e. e.cid ≡ cid → e ≡ entry) (unfetched_at queues q)
   pub fetched : AllByRecursion (λ j. j.q ≡ q → j.entry.cid ≡ cid → j.entry ≡ entry) jobs
 
--- The chain pages of a command that moves data spell its joined parts, whatever stands in other pages, from the descriptor of its entry.
+-- The chain pages of a command with a list spell its joined parts, whatever stands in other pages, from the descriptor of its entry.
 pub record ListStands (m : Pages) (queues : List ServedQueue) (jobs : List Job) (r : Record) (request : Request) : Type 0 where
   pub first : Descriptor
   pub read : descriptor_of (spelling first) ≡ Some first
-  pub spells : moves_data request.kind ≡ true → Spells (only (on_pages r.chain_pages) (byte_at m)) first (joined_parts request.pieces r.data_pages)
+  pub spells : has_list request.kind ≡ true → Spells (only (on_pages r.chain_pages) (byte_at m)) first (joined_parts request.pieces r.data_pages)
   pub entry : HasEntry queues jobs r.q r.cid (io_entry r.cid request (spelling first))
 
 abbrev pub StandsAs : Pages → List ServedQueue → List Job → Record → Work → Type 0

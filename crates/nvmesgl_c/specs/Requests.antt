@@ -30,6 +30,7 @@ kind_of (suc (suc zero)) = Some kind.Compare
 kind_of (suc (suc (suc zero))) = Some kind.WriteZeroes
 kind_of (suc (suc (suc (suc zero)))) = Some kind.Verify
 kind_of (suc (suc (suc (suc (suc zero))))) = Some kind.Flush
+kind_of (suc (suc (suc (suc (suc (suc zero)))))) = Some kind.Deallocate
 kind_of n = None
 
 -- a word that is not 0

@@ -13,8 +13,8 @@ use Rattle.machine_model.specs.Standing.{unfetched_at, HasEntry, ListStands, Sta
 use Rattle.machine_model.specs.{State.{State, ServedQueue, Controller, Record, Job, is_at, record_at, with_record, pages_of}, Step.Step, Trusted.{Steps, drafts_of}}
 use Rattle.machine_model.specs.{Work.Work, declared.words.{Peer.TheVariants.{Modelled}, Refusal.Refusal, Work.TheVariants.{Io, Management}}}
 use Rattle.entry_codec.specs.declared.{status.TheConstants.Status.COMMAND_ID_CONFLICT, submission.SubEntry.SubEntry}
-use Rattle.io_commands.proofs.{Building.{carries_entry, draft_of_blocks, moves_blocks}, Pointers.{pointer_moves, pointer_still}}
-use Rattle.io_commands.specs.{Asked.Request, Drafts.{DraftContents, draft_first, io_entry, pointer_of}, Requests.{joined_parts, moves_data}}
+use Rattle.io_commands.proofs.{Building.{carries_entry, draft_of_blocks, list_blocks}, Pointers.{pointer_lists, pointer_still}}
+use Rattle.io_commands.specs.{Asked.Request, Drafts.{DraftContents, draft_first, io_entry, pointer_of}, Requests.{has_list, joined_parts}}
 use Rattle.io_commands.specs.{Values.numbers_of, declared.request.Kind.Kind}
 use Rattle.run_laws.proofs.{Causes.not_conflicting, DataKept.{Going, one_step, stood_step, left_step, submits_far, IsOfDraft, Found, found_draft, submits_of}}
 use Rattle.run_laws.proofs.{Known.{unsent, same_draft}, Moves.{QueueMove, queues_event, RecordsMove, records_event}, ReadsWalked.sent_few}
@@ -201,7 +201,7 @@ pub record Chained (drafts : List DraftContents) (s : State) (r : Record) (reque
   pub built : draft.entry ≡ Some entry
   pub of : IsOfDraft draft r
   pub list : ListStands s.memory s.controller.queues s.controller.jobs r request
-  pub first : moves_data request.kind ≡ true → list.first ≡ draft_first draft
+  pub first : has_list request.kind ≡ true → list.first ≡ draft_first draft
 
 abbrev pub ChainedIfIo : List DraftContents → State → Record → Work → Type 0
 ChainedIfIo drafts s r (Io request) = Chained drafts s r request
@@ -269,7 +269,7 @@ list_kept m m' qs qs' js js' r request same keeps l = (
   record {
     first = l.first;
     read = l.read;
-    spells = λ moves. spells_there (only (on_pages r.chain_pages) (byte_at m)) (only (on_pages r.chain_pages) (byte_at m')) (only_same m m' r.chain_pages same) l.first (joined_parts request.pieces r.data_pages) (l.spells moves);
+    spells = λ has. spells_there (only (on_pages r.chain_pages) (byte_at m)) (only (on_pages r.chain_pages) (byte_at m')) (only_same m m' r.chain_pages same) l.first (joined_parts request.pieces r.data_pages) (l.spells has);
     entry = keeps (io_entry r.cid request (spelling l.first)) l.entry;
   },
   refl,
@@ -288,16 +288,16 @@ entry_posted (x ∷ qs) zero at entry P e all = last x.unfetched all
     last (y ∷ ys) h = last ys h.1
 entry_posted (x ∷ qs) (suc q) at entry P e all = entry_posted qs q at entry P e all
 
-pub submitted_first : (s : State) (d : DraftContents) → Going s (events.Submit d) events.Accepted → (entry : SubEntry) → d.entry ≡ Some entry → (r : Record) (request : Request) → r.q ≡ d.q → r.cid ≡ d.cid → d.request ≡ request → moves_data request.kind ≡ true
+pub submitted_first : (s : State) (d : DraftContents) → Going s (events.Submit d) events.Accepted → (entry : SubEntry) → d.entry ≡ Some entry → (r : Record) (request : Request) → r.q ≡ d.q → r.cid ≡ d.cid → d.request ≡ request → has_list request.kind ≡ true
     → (l : ListStands (a.after_submit d s).memory (a.after_submit d s).controller.queues (a.after_submit d s).controller.jobs r request) → l.first ≡ draft_first d
-submitted_first s d g entry built r request its_queue its_cid asked moves l =
+submitted_first s d g entry built r request its_queue its_cid asked has l =
     let s1 : State = a.on_records (with_record d.q d.cid a.submitted) (a.on_memory (with_pages (d.data_pages ++ d.chain_pages)) s) in
     elim (option_is (host_queue s d.q)) [
       | inl e ↦ let h = rw e at live in absurd (true≢false (sym h))
       | inr (queue, e) ↦
           let pair = pair_at s g.stood.grounds d.q queue e in
           let its : entry ≡ io_entry d.cid d.request (spelling (draft_first d)) =
-          carries_entry d entry g.proper.draft built ∙ draft_of_blocks d (moves_blocks d.request.kind (ap (λ (x : Request). moves_data x.kind) asked ∙ moves)) in
+          carries_entry d entry g.proper.draft built ∙ draft_of_blocks d (list_blocks d.request.kind (ap (λ (x : Request). has_list x.kind) asked ∙ has)) in
           let all : AllByRecursion (λ (y : SubEntry). y.cid ≡ r.cid → y ≡ io_entry r.cid request (spelling l.first)) (unfetched_at (change d.q (λ at. record at { unfetched = at.unfetched ++ entry ∷ [] }) s.controller.queues) d.q) =
           subst (λ (qs : List ServedQueue). AllByRecursion (λ (y : SubEntry). y.cid ≡ r.cid → y ≡ io_entry r.cid request (spelling l.first)) (unfetched_at qs d.q)) queues
           (subst (λ (n : ℕ). AllByRecursion (λ (y : SubEntry). y.cid ≡ r.cid → y ≡ io_entry r.cid request (spelling l.first)) (unfetched_at (a.after_submit d s).controller.queues n)) its_queue l.entry.unfetched) in
@@ -305,7 +305,7 @@ submitted_first s d g entry built r request its_queue its_cid asked moves l =
           entry_posted s.controller.queues d.q pair.0 entry (λ (y : SubEntry). y.cid ≡ r.cid → y ≡ io_entry r.cid request (spelling l.first)) pair.1 all (ap (λ (y : SubEntry). y.cid) its ∙ sym its_cid) in
           let pointer : pointer_of request.kind (spelling l.first) ≡ pointer_of d.request.kind (spelling (draft_first d)) = sym (ap (λ (y : SubEntry). y.sgl1) is) ∙ ap (λ (y : SubEntry). y.sgl1) its in
           let spelled : spelling l.first ≡ spelling (draft_first d) =
-          sym (pointer_moves request.kind (spelling l.first) moves) ∙ pointer ∙ pointer_moves d.request.kind (spelling (draft_first d)) (ap (λ (x : Request). moves_data x.kind) asked ∙ moves) in
+          sym (pointer_lists request.kind (spelling l.first) has) ∙ pointer ∙ pointer_lists d.request.kind (spelling (draft_first d)) (ap (λ (x : Request). has_list x.kind) asked ∙ has) in
           some_is (sym l.read ∙ ap descriptor_of spelled ∙ read)
     ]
   where
@@ -361,7 +361,7 @@ chains_move drafts s e reply g = record {
       built = h.built;
       of = h.of;
       list = still.0;
-      first = λ moves. still.1 ∙ h.first moves;
+      first = λ has. still.1 ∙ h.first has;
     }
       where
         still : (l' : ListStands (a.after s e reply).memory (a.after s e reply).controller.queues (a.after s e reply).controller.jobs r request) × (l'.first ≡ h.list.first)
@@ -385,7 +385,7 @@ chains_move drafts s e reply g = record {
           built = built;
           of = record { work = of.work; data_pages = of.data_pages; chain_pages = of.chain_pages };
           list = l;
-          first = λ moves. submitted_first s d g entry built (a.submitted r) request ids.0 ids.1 asked moves l;
+          first = λ has. submitted_first s d g entry built (a.submitted r) request ids.0 ids.1 asked has l;
         }
     new d reply g entry r built at fits (Io request) w stands = absurd g.ok.1
 
@@ -425,9 +425,9 @@ chained_along (m ∷ made) s end drafts (is, mid, step, rest) u stood h =
 
 -- The law
 
-same_pointer : (kind : Kind) (x y : Descriptor) → (moves_data kind ≡ true → x ≡ y) → pointer_of kind (spelling x) ≡ pointer_of kind (spelling y)
-same_pointer kind x y same = elim (cases_Bool (moves_data kind)) [
-  | inl moves ↦ ap (λ (d : Descriptor). pointer_of kind (spelling d)) (same moves)
+same_pointer : (kind : Kind) (x y : Descriptor) → (has_list kind ≡ true → x ≡ y) → pointer_of kind (spelling x) ≡ pointer_of kind (spelling y)
+same_pointer kind x y same = elim (cases_Bool (has_list kind)) [
+  | inl has ↦ ap (λ (d : Descriptor). pointer_of kind (spelling d)) (same has)
   | inr still ↦ pointer_still kind (spelling x) still ∙ sym (pointer_still kind (spelling y) still)
 ]
 
@@ -450,8 +450,8 @@ chains_drafted image made end q cid r request run found sub work =
             request_is = (cc (sym h.of.work ∙ work));
             data_pages = h.of.data_pages;
             chain_pages = h.of.chain_pages;
-            spells = λ moves. subst (λ (x : Descriptor). Spells (byte_at end.memory) x (joined_parts request.pieces r.data_pages)) (h.first moves)
-                (spells_there (only (on_pages r.chain_pages) (byte_at end.memory)) (byte_at end.memory) (more_than_only (on_pages r.chain_pages) (byte_at end.memory)) h.list.first (joined_parts request.pieces r.data_pages) (h.list.spells moves));
+            spells = λ has. subst (λ (x : Descriptor). Spells (byte_at end.memory) x (joined_parts request.pieces r.data_pages)) (h.first has)
+                (spells_there (only (on_pages r.chain_pages) (byte_at end.memory)) (byte_at end.memory) (more_than_only (on_pages r.chain_pages) (byte_at end.memory)) h.list.first (joined_parts request.pieces r.data_pages) (h.list.spells has));
             named = subst (λ (pointer : List ℕ). All (λ (e : SubEntry). e.sgl1 ≡ pointer) (entries_of end r.q r.cid)) (same_pointer request.kind h.list.first (draft_first h.draft) h.first)
                 (all-to (λ e. e.sgl1 ≡ pointer_of request.kind (spelling h.list.first)) (entries_of end r.q r.cid) (entries_named end r.q r.cid (io_entry r.cid request (spelling h.list.first)) h.list.entry));
           },

@@ -5,17 +5,17 @@ use Rattle.machine_model.specs.Events as events
 use Rattle.std.proofs.Common.{◌≡◌, ℕ, ◌==◌, Bool, true, false, nat_lt, Option, Some, None, List, [], ◌∷◌, ◌++◌, is_some, is_none, if◌then◌else◌, refl, ap, sym, ◌∙◌, arith, subst, eqb-true, append-nil, append_assoc, ◌+◌, not, ◌&&◌, ◌||◌, ap₂, inl, inr, ◌*◌, ◌<◌, ◌≤◌, length, slice_set, option_and_then, eq-eqb, length-set}
 use Rattle.std.proofs.lemmas.{Bool.{true≢false, and_parts, cases_Bool, not-true, eqb-false}, List.{Elements.{All-head, All-tail}, Folds.list_any-append}}
 use Rattle.std.{proofs.lemmas.Option.slice_get-get_or, specs.{List.list_any, Option.{option_map_or, option_map}, Prelude.unwrap_or, Str.bytes_eq}}
-use Rattle.block_image.specs.Blocks.{blocks_at}
+use Rattle.block_image.specs.Blocks.{blocks_at, with_blocks}
 use Rattle.sgl_descriptor.specs.{Spelling.spelling, declared.Direction.TheVariants.Source}
 use Rattle.entry_codec.specs.{Status.is_success, declared.{io_opcode.TheConstants.COMPARE, status.Status.Status}}
 use Rattle.entry_codec.specs.declared.status.TheConstants.Status.{SUCCESS, COMPARE_FAILURE, ABORT_REQUESTED, ABORTED_SQ_DELETION, INVALID_OPCODE, INVALID_NAMESPACE, LBA_OUT_OF_RANGE}
 use Rattle.entry_codec.specs.declared.submission.SubEntry.{SubEntry}
-use Rattle.io_commands.{proofs.Building.entry_blocks, specs.{Asked.Request, DataBytes.gathered, Drafts.{DraftContents, io_entry, FitsDraft, HoldsPages, BuiltDraftsSpell}}}
+use Rattle.io_commands.{proofs.Building.{entry_block, entry_blocks}, specs.{Asked.Request, DataBytes.gathered, Drafts.{DraftContents, io_entry, FitsDraft, HoldsPages, BuiltDraftsSpell}}}
 use Rattle.io_commands.specs.{Jobs.{verdict_of, direction_of_entry, kind_of_opcode, first_block, block_number}, Requests.{direction_of, is_admin, moves_data, opcode_of}}
-use Rattle.io_commands.specs.{Values.numbers_of, declared.request.Kind.{Kind, TheVariants.{Read, Compare, Admin}}}
+use Rattle.io_commands.specs.{Values.numbers_of, declared.request.Kind.{Kind, TheVariants.{Read, Write, Compare, Admin}}}
 use Rattle.machine_model.proofs.{Counting.times-cons, HostLeaves.ids_of, Steps.{managed_by, Accepts, same_lists, permitted}}
 use Rattle.machine_model.{proofs.Tokens.{is_job as is_job_tokens}, specs.{After.final_status, Events.{Event, Reply}}}
-use Rattle.machine_model.specs.{Image.{Made, draft_of, submitted_by, written_by, succeeds, image_by, image_from}, Memory.with_pages, Opening.opening}
+use Rattle.machine_model.specs.{Image.{Made, draft_of, is_write, submitted_by, written_by, succeeds, image_by, image_from}, Memory.with_pages, Opening.opening}
 use Rattle.machine_model.specs.{Proper.{IsProper, IsPage, ArePages}, Refusals.{refusal_of, job_at, is_job}, State.{State, Controller, Job, is_at}}
 use Rattle.machine_model.specs.{Status.same_status, Step.{Step, times}, Trusted.{TrustedRun, drafts_of, Steps, forges_by, is_forgery}, Weights.one}
 use Rattle.machine_model.specs.declared.words.Refusal.{Refusal}
@@ -44,9 +44,6 @@ use Rattle.page_memory.proofs.Lists.{found_is, all-found, some_is}
 pub entry_kind : (cid : ℕ) (r : Request) (sgl1 : List ℕ) → moves_data r.kind ≡ true → kind_of_opcode (io_entry cid r sgl1).opcode ≡ Some r.kind
 entry_kind cid r sgl1 moves = moving_kind r.kind moves
 
-pub entry_block : (cid : ℕ) (r : Request) (sgl1 : List ℕ) → first_block (io_entry cid r sgl1) ≡ r.slba
-entry_block cid r sgl1 = omega arith
-
 -- The draft of a job's command
 
 -- a kind of blocks that moves no data counts as a source
@@ -60,7 +57,7 @@ pub record JobDraft (drafts : List DraftContents) (s : State) (q cid : ℕ) (j :
   pub of : OfDraft drafts s.memory list.command list.request
   pub latest : draft_of q cid drafts ≡ Some of.draft
   pub opcode : j.entry.opcode ≡ opcode_of list.request.kind
-  pub block : first_block j.entry ≡ list.request.slba
+  pub block : moves_data list.request.kind ≡ true → first_block j.entry ≡ list.request.slba
   -- one that went well is of a kind that moves data, and a source's has all the draft's bytes
   pub moves : (v : Status) → j.verdict ≡ Some v → is_success v ≡ true → moves_data list.request.kind ≡ true
   pub bytes : direction_of list.request.kind ≡ Source → (v : Status) → j.verdict ≡ Some v → is_success v ≡ true → j.bytes ≡ gathered list.request.pieces of.draft.data_pages
@@ -77,7 +74,7 @@ job_draft drafts s q cid j stood known other at =
       of = of;
       latest = subst (λ (n : ℕ). draft_of n cid drafts ≡ Some of.draft) (rec.0 ∙ eqb-true j.q q ids.0) (subst (λ (n : ℕ). draft_of l.command.q n drafts ≡ Some of.draft) (rec.1 ∙ eqb-true j.entry.cid cid ids.1) of.latest);
       opcode = opcode_asked s j l;
-      block = ap first_block l.entry ∙ entry_block l.command.cid l.request (spelling l.list.first);
+      block = λ moves. ap first_block l.entry ∙ entry_block l.command.cid l.request (spelling l.list.first) moves;
       moves = λ v is ok. moves_where_source l.request.kind l.sized.blocks (λ source. list_moves s j l (carries l source v is ok).known);
       bytes = λ source v is ok. all_carried s stood j l (dir l source) of.draft.data_pages of.pages (of.stand source) v is (carries l source v is ok);
     }
@@ -100,7 +97,21 @@ same_if b x = grind arith
 -- what the draft of a job that went well writes is what the job does
 by_kind : (drafts : List DraftContents) (s : State) (q cid : ℕ) (j : Job) (d : JobDraft drafts s q cid j) (v : Status) → j.verdict ≡ Some v → is_success v ≡ true → (k : Kind) → d.list.request.kind ≡ k
     → jobs.image_by s.controller.image j.entry j.bytes (Some k) ≡ (if is_success (jobs.status_by s.controller.image j.entry j.bytes (Some k)) then written_by d.of.draft s.controller.image else s.controller.image)
-by_kind drafts s q cid j d v is ok k k' = grind arith
+by_kind drafts s q cid j d v is ok Write k' =
+    let draft = d.of.draft in
+    let image = s.controller.image in
+    let kind : draft.request.kind ≡ Write = ap (λ (r : Request). r.kind) d.of.asked ∙ k' in
+    let first : first_block j.entry ≡ draft.request.slba = d.block (ap moves_data k') ∙ ap (λ (r : Request). r.slba) (sym d.of.asked) in
+    let bytes : j.bytes ≡ gathered draft.request.pieces draft.data_pages = d.bytes (ap direction_of k') v is ok ∙ ap (λ (r : Request). gathered r.pieces draft.data_pages) (sym d.of.asked) in
+    ap (λ (n : ℕ). with_blocks image n j.bytes) first ∙ ap (with_blocks image draft.request.slba) bytes
+    ∙ sym (ap (λ (x : Kind). if is_write x then with_blocks image draft.request.slba (gathered draft.request.pieces draft.data_pages) else image) kind)
+by_kind drafts s q cid j d v is ok k k' =
+    let draft = d.of.draft in
+    let image = s.controller.image in
+    let still : written_by draft image ≡ image =
+    ap (λ (x : Kind). if is_write x then with_blocks image draft.request.slba (gathered draft.request.pieces draft.data_pages) else image) (ap (λ (r : Request). r.kind) d.of.asked ∙ k') in
+    let b = is_success (jobs.status_by image j.entry j.bytes (Some k)) in
+    sym (ap (λ (x : List ℕ). if b then x else image) still ∙ same_if b image)
 
 by_opcode : (drafts : List DraftContents) (s : State) (q cid : ℕ) (j : Job) (d : JobDraft drafts s q cid j) (v : Status) → j.verdict ≡ Some v → is_success v ≡ true
     → jobs.image_by s.controller.image j.entry j.bytes (kind_of_opcode j.entry.opcode)
@@ -316,7 +327,7 @@ told done drafts s q cid j d traced known at none compare latest fine = elim (ca
             let bytes : j.bytes ≡ gathered d.request.pieces d.data_pages =
             k.bytes (ap direction_of kind) v is ok ∙ ap (λ (r : Request). gathered r.pieces k.of.draft.data_pages) request ∙ ap (λ (x : DraftContents). gathered d.request.pieces x.data_pages) same in
             let there : (d.request.nsid == 1) ≡ true = eq-eqb d.request.nsid 1 (sym namespace ∙ caused.namespace (ap goes_well is ∙ ok)) in
-            let first : first_block j.entry ≡ d.request.slba = k.block ∙ ap (λ (r : Request). r.slba) request in
+            let first : first_block j.entry ≡ d.request.slba = k.block (ap moves_data kind) ∙ ap (λ (r : Request). r.slba) request in
             let count : block_number j.entry ≡ d.request.blocks =
             ap block_number k.list.entry ∙ entry_blocks k.list.command.cid k.list.request (spelling k.list.list.first) k.list.sized.good (ap moves_data kind) ∙ ap (λ (r : Request). r.blocks) request in
             final ∙ ap (λ (b : Bool). if b then jobs.status_by s.controller.image j.entry j.bytes (kind_of_opcode j.entry.opcode) else v) ok

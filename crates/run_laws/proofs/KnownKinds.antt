@@ -3,7 +3,7 @@ use Rattle.std.proofs.Common.{◌≡◌, ◌∙◌, ℕ, true, false, Option, So
 use Rattle.std.proofs.lemmas.Bool.{cases_Bool}
 use Rattle.entry_codec.specs.declared.submission.SubEntry.{SubEntry}
 use Rattle.io_commands.{proofs.Pointers.known_moves, specs.{Jobs.{io_fault, kind_of_opcode}, Requests.{is_admin, moves_data, opcode_of}}}
-use Rattle.io_commands.specs.declared.request.Kind.{Kind, TheVariants.{Read, Write, Compare, WriteZeroes, Verify, Flush, Admin}}
+use Rattle.io_commands.specs.declared.request.Kind.{Kind, TheVariants.{Read, Write, Compare, WriteZeroes, Verify, Flush, Deallocate, Admin}}
 use Rattle.machine_model.specs.State.{State, Job}
 use Rattle.two_sides.proofs.Served.{JobList}
 
@@ -15,6 +15,7 @@ moving_kind Compare moves = refl
 moving_kind WriteZeroes moves = absurd (true≢false (sym moves))
 moving_kind Verify moves = absurd (true≢false (sym moves))
 moving_kind Flush moves = absurd (true≢false (sym moves))
+moving_kind Deallocate moves = absurd (true≢false (sym moves))
 moving_kind (Admin command) moves = absurd (true≢false (sym moves))
 
 pub still_kind : (kind : Kind) → is_admin kind ≡ false → moves_data kind ≡ false → kind_of_opcode (opcode_of kind) ≡ None
@@ -24,6 +25,7 @@ still_kind Compare far still = absurd (true≢false still)
 still_kind WriteZeroes far still = refl
 still_kind Verify far still = refl
 still_kind Flush far still = refl
+still_kind Deallocate far still = refl
 still_kind (Admin command) far still = absurd (true≢false far)
 
 some_of : (o : Option Kind) → is_none o ≡ false → is_some o ≡ true

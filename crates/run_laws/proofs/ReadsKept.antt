@@ -13,7 +13,7 @@ use Rattle.sgl_descriptor.specs.declared.Direction.TheVariants.{Destination}
 use Rattle.controller_walk.{proofs.Along.list_moves_all, specs.{Along.MovesByte, Units.{units, Course}}}
 use Rattle.entry_codec.specs.{Status.is_success, declared.status.{Status.Status, TheConstants.Status.SUCCESS}}
 use Rattle.entry_codec.specs.declared.submission.SubEntry.{SubEntry}
-use Rattle.io_commands.{proofs.Building.{carries_entry, entry_blocks}, specs.{Asked.Request, Drafts.{DraftContents, io_entry}}}
+use Rattle.io_commands.{proofs.Building.{carries_entry, entry_block, entry_blocks}, specs.{Asked.Request, Drafts.{DraftContents, io_entry}}}
 use Rattle.io_commands.specs.Jobs.{verdict_of, io_fault, bytes_after_check, need_of_entry, direction_of_entry, direction_by, kind_of_opcode, first_block, block_number}
 use Rattle.io_commands.specs.{BlockSizes.block_bytes, declared.block_size.BlockSize.BlockSize, Requests.{parts_of, direction_of, moves_data, need_of}, Values.numbers_of, declared.request.Kind.{Kind, TheVariants.Read}}
 use Rattle.machine_model.proofs.{Cases.none_some, Counting.held_once, Owned.{in_record, in_queue}, Steps.{Accepts, pages_match}}
@@ -24,7 +24,7 @@ use Rattle.machine_model.specs.Standing.{IsSized, StandsAs, CommandStands, unfet
 use Rattle.machine_model.specs.{State.{State, Record, Job, PostedCompletion, is_at, record_at, pages_of, ServedQueue}, Weights.{total, one}, Work.Work}
 use Rattle.machine_model.specs.declared.words.{Peer.TheVariants.{Modelled}, Phase.Phase, Work.TheVariants.{Io, Management}}
 use Rattle.run_laws.proofs.Carrying.{Stands, reach, target_in, list_ordered, all_reached, Received, received_still}
-use Rattle.run_laws.proofs.{Causes.{goes_well, none_found, has_verdict}, Images.{entry_kind, entry_block}}
+use Rattle.run_laws.proofs.{Causes.{goes_well, none_found, has_verdict}, Images.entry_kind}
 use Rattle.run_laws.proofs.Known.{same_draft, submit_record, course_stays, fault_fails}
 use Rattle.run_laws.{proofs.Moves.{takes, JobsMove, jobs_event, begun_job, QueueMove, queues_event}, specs.Statuses.fetches_by}
 use Rattle.two_sides.proofs.{Commands.{Walking, walk_writes, in_hand_is}, Heads.no_conflict as not_conflicting}
@@ -258,7 +258,7 @@ begun_reading s t at r request m w kind q e sgl1 is image k none same well = go 
     reads = ap (λ (x : SubEntry). kind_of_opcode x.opcode) is ∙ entry_reads r.cid request sgl1 kind
 
     first : first_block e ≡ request.slba
-    first = ap first_block is ∙ entry_block r.cid request sgl1
+    first = ap first_block is ∙ entry_block r.cid request sgl1 (ap moves_data kind)
 
     count : block_number e ≡ request.blocks
     count = ap block_number is ∙ entry_blocks r.cid request sgl1 (sized_of s r request m w).good (ap moves_data kind)

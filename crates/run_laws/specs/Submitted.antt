@@ -2,7 +2,7 @@
 use Rattle.std.specs.{List.list_any, Prelude.{◌≡◌, ℕ, Bool, not, IsTrue, true, is_some, Some, List, [], ◌∷◌, ◌++◌, All}}
 use Rattle.sgl_descriptor.specs.{Spelling.spelling, Targets.targets, declared.Direction.TheVariants.Destination}
 use Rattle.entry_codec.specs.{Status.is_success, declared.status.TheConstants.Status.ABORTED_SQ_DELETION}
-use Rattle.io_commands.specs.{Asked.Request, DataBytes.gathered, Drafts.{DraftContents, draft_first, pointer_of}, Requests.{parts_of, joined_parts, moves_data}}
+use Rattle.io_commands.specs.{Asked.Request, DataBytes.gathered, Drafts.{DraftContents, draft_first, pointer_of}, Requests.{has_list, parts_of, joined_parts}}
 use Rattle.io_commands.specs.Values.{FinishedContents, numbers_of}
 use Rattle.page_memory.specs.Pages.{byte_at}
 use Rattle.sgl_chain.specs.Spells.{Spells}
@@ -137,14 +137,14 @@ successful_reads_give_their_blocks =
 
 -- A command's list
 
--- a submitted command has a draft's request and pages: where it moves data its chain spells the draft's list, and each entry of it at the controller names
+-- a submitted command has a draft's request and pages: where it has a list its chain spells the draft's list, and each entry of it at the controller names
 -- that list
 pub record HasListOf (d : DraftContents) (s : State) (r : Record) (request : Request) : Type 0 where
   pub is_built : IsTrue (is_some d.entry)
   pub request_is : d.request ≡ request
   pub data_pages : numbers_of d.data_pages ≡ r.data_pages
   pub chain_pages : numbers_of d.chain_pages ≡ r.chain_pages
-  pub spells : moves_data request.kind ≡ true → Spells (byte_at s.memory) (draft_first d) (joined_parts request.pieces r.data_pages)
+  pub spells : has_list request.kind ≡ true → Spells (byte_at s.memory) (draft_first d) (joined_parts request.pieces r.data_pages)
   pub named : All (λ e. e.sgl1 ≡ pointer_of request.kind (spelling (draft_first d))) (entries_of s r.q r.cid)
 
 -- that draft is the latest that was submitted of its queue and identifier

@@ -43,8 +43,8 @@ pub fn law_of_fetched_commands()
 
 /// Where nothing was forged, a submitted command has the request and the pages of the latest draft of its queue and identifier.
 ///
-/// That draft was built; where the command moves data its chain spells the draft's list, and each entry of the command that
-/// stands at the controller names that list. Where it moves none, such an entry has zeros there.
+/// That draft was built; where the command has a list its chain spells the draft's list, and each entry of the command that
+/// stands at the controller names that list. Where it has none, such an entry has zeros there.
 pub fn law_of_drafted_chains()
     ensures { chains_are_the_drafts }
 {}

@@ -18,7 +18,7 @@ pub fn law_of_histories()
     ensures runs { runs_are_made }
 {}
 
-/// Once the chain pages of a built draft that moves data are in the store, the descriptor of its entry spells its parts there.
+/// Once the chain pages of a built draft with a list are in the store, the descriptor of its entry spells its parts there.
 pub fn law_of_built_drafts()
     ensures { built_drafts_spell_in_store }
 {
@@ -28,8 +28,8 @@ pub fn law_of_built_drafts()
 /// Where nothing was forged, each status of an I/O command has its cause.
 ///
 /// It is success; or an Abort of the command, or the deletion of its queue, fetched since the command was; or an opcode that the
-/// controller does not have, as that of a Write Zeroes, a Verify and a Flush; or another namespace than 1; or blocks beyond the
-/// image; or a Compare that found a difference.
+/// controller does not have, as that of a Write Zeroes, a Verify, a Flush and a Deallocate; or another namespace than 1; or blocks
+/// beyond the image; or a Compare that found a difference.
 pub fn law_of_statuses()
     ensures { every_status_has_its_cause }
 {}

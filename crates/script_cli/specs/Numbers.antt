@@ -1,7 +1,7 @@
 -- What single words stand for: numbers, bytes and kinds.
 use Rattle.std.specs.Prelude.{ℕ, ◌+◌, ◌-◌, ◌*◌, ◌==◌, nat_lt, nat_le, ◌&&◌, Bool, Option, Some, None, List, [], ◌∷◌, ◌++◌, length, codes, option_and_then, if◌then◌else◌}
 use Rattle.std.specs.Str.{bytes_eq}
-use Rattle.io_commands.specs.declared.request.Kind.{Kind, TheVariants.{Read, Write, Compare, WriteZeroes, Verify, Flush}}
+use Rattle.io_commands.specs.declared.request.Kind.{Kind, TheVariants.{Read, Write, Compare, WriteZeroes, Verify, Flush, Deallocate}}
 
 abbrev pub is_digit : ℕ → Bool
 is_digit b = nat_le 48 b && nat_le b 57
@@ -60,4 +60,5 @@ kind word =
     else if bytes_eq word (codes "write_zeroes") then Some WriteZeroes
     else if bytes_eq word (codes "verify") then Some Verify
     else if bytes_eq word (codes "flush") then Some Flush
+    else if bytes_eq word (codes "deallocate") then Some Deallocate
     else None

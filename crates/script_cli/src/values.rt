@@ -137,6 +137,8 @@ pub(crate) fn kind(word: &[u8]) -> Option<Kind>
         Some(Kind::Verify)
     } else if word == "flush".as_bytes() {
         Some(Kind::Flush)
+    } else if word == "deallocate".as_bytes() {
+        Some(Kind::Deallocate)
     } else {
         None
     }

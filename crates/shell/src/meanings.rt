@@ -159,7 +159,7 @@ pub const FAULTS: [(&str, &str); 15] = [
     ("MissingWord", "the line lacks a word that its verb wants"),
     (
         "BadKind",
-        "a kind is read, write, compare, write_zeroes, verify or flush",
+        "a kind is read, write, compare, deallocate, write_zeroes, verify or flush",
     ),
     (
         "BadNumber",

@@ -3,23 +3,10 @@
 use script_cli::transcripts::{MAX_TRANSCRIPT, Options};
 use script_cli::{BLOCK_SIZE, FUA, LR, NSID, VECTOR, Verb, append_counts, append_reply};
 use std::alloc::{AllocError, Global};
-use step_core::{Counts, Kind, Piece, Reply, Request, Step};
+use step_core::{Counts, Piece, Reply, Request, Step};
 
 /// The most bytes that a line of a script can fill any draft with: two digits each, behind `fill 65535 65535 `.
 const MOST_FILLED: usize = 8_183;
-
-/// The name of a kind of command.
-fn kind_name(kind: Kind) -> &'static str {
-    match kind {
-        Kind::Read => "read",
-        Kind::Write => "write",
-        Kind::Compare => "compare",
-        Kind::WriteZeroes => "write_zeroes",
-        Kind::Verify => "verify",
-        Kind::Flush => "flush",
-        Kind::Admin(_) => "admin",
-    }
-}
 
 /// Puts bytes as hexadecimal digits, behind a blank; a zero where there is none.
 fn put_hex(out: &mut String, bytes: &[u8]) -> Result<(), AllocError> {
@@ -61,7 +48,7 @@ fn put_vector(out: &mut String, vector: Option<u16>) -> Result<(), AllocError> {
 
 /// Puts the words of a request.
 fn put_request(out: &mut String, request: &Request) -> Result<(), AllocError> {
-    let (kind, slba, blocks) = (kind_name(request.kind), request.slba, request.blocks);
+    let (kind, slba, blocks) = (request.kind.name(), request.slba, request.blocks);
     write!(out, " {kind} {slba} {blocks}")?;
     for piece in request.pieces() {
         match *piece {

@@ -10,7 +10,7 @@ use Rattle.std.proofs.Common.{◌≡◌, ◌==◌, ℕ, Bool, true, false, Optio
 use Rattle.std.proofs.lemmas.{Bool.{and_parts, or_parts, Decides.nat_tests}, Grind.common_steps, List.length-map}
 use Rattle.std.specs.{List.{list_any, AllByRecursion, list_all}, Option.option_map}
 use Rattle.io_commands.{proofs.Building.{some_parts, no_segments, built_keeps, fill_keeps}, specs.DataBytes.{PagesOut, data_length, filled}}
-use Rattle.io_commands.specs.{Drafts.{DraftContents, IsDraft, built, laid, draft_parts, draft_segments}, Requests.{crosses_page, moves_data}}
+use Rattle.io_commands.specs.{Drafts.{DraftContents, IsDraft, built, laid, draft_parts, draft_segments}, Requests.{crosses_page, has_list}}
 use Rattle.io_commands.specs.{Values.{FinishedContents, numbers_of}, declared.{draft.FillFault.FillFault, request.Piece.{Piece, TheVariants.{Data, Bucket}}}}
 use Rattle.machine_model.specs.{Events.Event, Image.{draft_of, is_draft, Made}, Proper.{IsProper, IsProperDraft, IsPage}}
 use Rattle.machine_model.specs.{Script.{Table, finished_at, is_ticket, is_finished, fill_fault, filled_draft, table}, State.State}
@@ -199,16 +199,16 @@ laid_pages (segment ∷ segments) (page ∷ pages) fit whole =
 
 -- one segment on each page of a draft's chain
 segment_on_each : (d : DraftContents) → IsDraft d → length (draft_segments d) ≡ length d.chain_pages
-segment_on_each d h = by (moves_data d.request.kind) refl
+segment_on_each d h = by (has_list d.request.kind) refl
   where
-    by : (b : Bool) → moves_data d.request.kind ≡ b → length (draft_segments d) ≡ length d.chain_pages
+    by : (b : Bool) → has_list d.request.kind ≡ b → length (draft_segments d) ≡ length d.chain_pages
     by false still = no_segments d h still
-    by true moves =
+    by true list =
         length-built d.segment (numbers_of d.chain_pages) (draft_parts d)
         (record {
           low = h.low;
           high = h.high;
-          some = some_parts d.request (numbers_of d.data_pages) h.good moves (omega (arith, length-map d.data_pages (λ page. page.0), h.pieces_have_pages));
+          some = some_parts d.request (numbers_of d.data_pages) h.good list (omega (arith, length-map d.data_pages (λ page. page.0), h.pieces_have_pages));
           needed = length-map d.chain_pages (λ page. page.0) ∙ h.chain_has_pages;
         })
         ∙ sym h.chain_has_pages

@@ -40,8 +40,8 @@ pub use ended::{Ended, Leftover};
 pub use entry_codec::{Hints, Status};
 pub use host_core::{Config, QueueMemory, Refused, Right, Run, Runs};
 pub use io_commands::{
-    BlockSize, Draft, FillFault, Finished, Flags, Kind, Piece, Pieces, Request, RequestFault,
-    RequestOf, Ticket,
+    AdminCommand, BlockRange, BlockSize, Draft, FillFault, Finished, Flags, Kind, PageUse, Piece,
+    Pieces, Request, RequestFault, RequestOf, Ticket,
 };
 pub use machine_model::words::{HostState, OpenRefusal, Phase, Reaped, Refusal, RejectedFor};
 pub use open::OpenRefused;

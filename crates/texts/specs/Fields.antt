@@ -95,6 +95,7 @@ io_opcode_name opcode =
     else if opcode == io.WRITE_ZEROES then codes "Write Zeroes"
     else if opcode == io.VERIFY then codes "Verify"
     else if opcode == io.FLUSH then codes "Flush"
+    else if opcode == io.DATASET_MANAGEMENT then codes "Dataset Management"
     else codes "no command of this profile"
 
 unfoldable pub opcode_name : ℕ → ℕ → List ℕ

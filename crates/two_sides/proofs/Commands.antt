@@ -13,7 +13,7 @@ use Rattle.admin_commands.specs.declared.SqState.TheVariants.{Stopping}
 use Rattle.entry_codec.specs.declared.{status.{Status.Status, TheConstants.Status.{ABORT_REQUESTED, ABORTED_SQ_DELETION}}, submission.SubEntry.SubEntry}
 use Rattle.entry_codec.specs.declared.hints.TheConstants.Hints.{NONE}
 use Rattle.io_commands.{proofs.Building.{carries_entry, draft_of_blocks}, specs.{Asked.Request, Drafts.{io_entry, DraftContents, draft_first, draft_parts, draft_entry}}}
-use Rattle.io_commands.specs.{Jobs.{io_fault, bytes_after_check, direction_of_entry}, Requests.{joined_parts, fault_of, is_admin, moves_data, data_count, FitsRequest}}
+use Rattle.io_commands.specs.{Jobs.{io_fault, bytes_after_check, direction_of_entry}, Requests.{has_list, joined_parts, fault_of, is_admin, data_count, FitsRequest}}
 use Rattle.io_commands.specs.Values.{numbers_of}
 use Rattle.machine_model.proofs.{Counting.{held_once, times-append}, HostLeaves.ids_of, Kept.live_has_sq}
 use Rattle.machine_model.proofs.Moves.{IsOf, posts, host_moves, sends, sent_record, creates_cq, creates_sq, grants_cq, grants_sq}
@@ -151,7 +151,7 @@ pub list_still : (m m' : Pages) (qs qs' : List ServedQueue) (js js' : List Job) 
 list_still m m' qs qs' js js' r request same keeps l = record {
   first = l.first;
   read = l.read;
-  spells = λ moves. spells_there (only (on_pages r.chain_pages) (byte_at m)) (only (on_pages r.chain_pages) (byte_at m')) (only_same m m' r.chain_pages same) l.first (joined_parts request.pieces r.data_pages) (l.spells moves);
+  spells = λ has. spells_there (only (on_pages r.chain_pages) (byte_at m)) (only (on_pages r.chain_pages) (byte_at m')) (only_same m m' r.chain_pages same) l.first (joined_parts request.pieces r.data_pages) (l.spells has);
   entry = keeps (io_entry r.cid request (spelling l.first)) l.entry;
 }
 
@@ -326,14 +326,14 @@ commands_submit d entry r s proper e its live g few places same h =
         let ids = ids_of s d.q d.cid r its.found in
         let low_data : (p : ℕ) → is_among (numbers_of d.data_pages) p ≡ true → p < 65536 = λ p x. low p (data_of r p (ap (λ (xs : List ℕ). is_among xs p) (sym its.data_list) ∙ x)) in
         let low_chain : (p : ℕ) → is_among (numbers_of d.chain_pages) p ≡ true → p < 65536 = λ p x. low p (chain_of r p (ap (λ (xs : List ℕ). is_among xs p) (sym its.chain_list) ∙ x)) in
-        let spelled : moves_data request.kind ≡ true → Spells (only (on_pages (numbers_of d.chain_pages)) (byte_at (after_entry entry).memory)) (draft_first d) (draft_parts d) = λ moves.
-        draft_spells d entry (after_entry entry).memory proper e low_data low_chain (stand_there entry) (subst (λ (x : Request). moves_data x.kind ≡ true) same moves) in
+        let spelled : has_list request.kind ≡ true → Spells (only (on_pages (numbers_of d.chain_pages)) (byte_at (after_entry entry).memory)) (draft_first d) (draft_parts d) = λ has.
+        draft_spells d entry (after_entry entry).memory proper e low_data low_chain (stand_there entry) (subst (λ (x : Request). has_list x.kind ≡ true) same has) in
         record {
           first = draft_first d;
           read = first_read d proper low_data low_chain;
-          spells = λ moves. subst (λ (chain : List ℕ). Spells (only (on_pages chain) (byte_at (after_entry entry).memory)) (draft_first d) (joined_parts request.pieces r.data_pages)) its.chain_list
+          spells = λ has. subst (λ (chain : List ℕ). Spells (only (on_pages chain) (byte_at (after_entry entry).memory)) (draft_first d) (joined_parts request.pieces r.data_pages)) its.chain_list
               (subst (λ (pages : List ℕ). Spells (only (on_pages (numbers_of d.chain_pages)) (byte_at (after_entry entry).memory)) (draft_first d) (joined_parts request.pieces pages)) its.data_list
-              (subst (λ (x : Request). Spells (only (on_pages (numbers_of d.chain_pages)) (byte_at (after_entry entry).memory)) (draft_first d) (joined_parts x.pieces (numbers_of d.data_pages))) (sym same) (spelled moves)));
+              (subst (λ (x : Request). Spells (only (on_pages (numbers_of d.chain_pages)) (byte_at (after_entry entry).memory)) (draft_first d) (joined_parts x.pieces (numbers_of d.data_pages))) (sym same) (spelled has)));
           entry = subst (λ (x : Request). HasEntry (change d.q (λ at. record at { unfetched = at.unfetched ++ entry ∷ [] }) s.controller.queues) s.controller.jobs r.q r.cid (io_entry r.cid x (spelling (draft_first d)))) (sym same)
               (subst (λ (c : ℕ). HasEntry (change d.q (λ at. record at { unfetched = at.unfetched ++ entry ∷ [] }) s.controller.queues) s.controller.jobs r.q c (io_entry c d.request (spelling (draft_first d)))) (sym ids.1)
               (subst (λ (q : ℕ). HasEntry (change d.q (λ at. record at { unfetched = at.unfetched ++ entry ∷ [] }) s.controller.queues) s.controller.jobs q d.cid (io_entry d.cid d.request (spelling (draft_first d))))

@@ -3,7 +3,7 @@ use Rattle.std.proofs.Common.{arith, ◌≡◌, ◌<◌, ◌≤◌, ◌⊎◌, i
 use Rattle.std.proofs.lemmas.{Bool.{true≢false, cases_lt, cases_Bool, Decides.nat_tests}, List.{take_all, take-replicate, length-replicate}}
 use Rattle.std.proofs.lemmas.List.{Concat.flat_map-cons, FromFn.{length-map-range_with_len, take-map-range_with_len}}
 use Rattle.std.specs.{List.{AllByRecursion, range_with_len, list_all}, Option.option_and_then}
-use Rattle.entry_codec.specs.declared.status.{Status.Status, TheConstants.Status.DATA_TRANSFER_ERROR}
+use Rattle.entry_codec.specs.declared.status.{Status.Status, TheConstants.Status.{DATA_SGL_LENGTH_INVALID, DATA_TRANSFER_ERROR}}
 use Rattle.page_memory.specs.Memory.{Memory, bytes_at, joined, page_of, pages_reached}
 use Rattle.sgl_descriptor.proofs.{Counts.{length-targets, length-targets_of_part, targets-append}, Spells.found}
 use Rattle.sgl_descriptor.specs.Spelling.{IsLink, descriptor_of, is_link}
@@ -12,12 +12,12 @@ use Rattle.sgl_descriptor.specs.declared.{Descriptor.{Descriptor, TheVariants.{D
 use Rattle.sgl_descriptor.specs.declared.{Direction.TheVariants.{Destination, Source}, Part.{Part, TheVariants.{Data, Bucket}}}
 use Rattle.sgl_chain.specs.Spells.{SpellsBy, Stand, Spells, descriptors_in}
 use Rattle.controller_walk.proofs.{Along.{is_wanted, still_wanted, bucket_front, count_one}, Courses.{pages_step, from_read, part_most, still_wants}}
-use Rattle.controller_walk.specs.{Along.{taken, parts_taken}, Laws.{ReadsWithin, MovesOutside}}
-use Rattle.controller_walk.specs.Units.{Stays, Reads, Moves, Course, Closes, Does, after_read, from_place, rest_of, goes_on, unless_fault, first_fault, moving, first_part, pages_spanned, entry_cursor, next, segment_start, course_of_list, named_on, named_last, verdict, names_no_segment, passes_end, Act, touched, units}
+use Rattle.controller_walk.specs.{Along.{taken, parts_taken, parts_of_list}, Laws.{ReadsWithin, MovesOutside}}
+use Rattle.controller_walk.specs.Units.{Stays, Reads, Moves, Course, Closes, Does, after_read, from_place, rest_of, goes_on, unless_fault, first_fault, moving, first_part, pages_spanned, entry_cursor, next, segment_start, course_of_list, named_on, named_last, verdict, verdict_of_list, names_no_segment, passes_end, Act, touched, units}
 use Rattle.controller_walk.specs.declared.cursor.{Cursor.Cursor, Named.{Named, TheVariants.{Unnamed, BySegment, ByLastSegment}}}
-use Rattle.controller_walk.specs.declared.walk.WalkState.TheVariants.{End, Fault}
+use Rattle.controller_walk.specs.declared.walk.WalkState.{WalkState, TheVariants.{End, Fault}}
 use Rattle.machine_model.specs.Reached.{only, LiesIn, CourseIn, IsThere, on_pages, ActIn, AreApart, KeepsToPages}
-use Rattle.two_sides.specs.Lists.{lists_end_well, long_lists_end_well, lists_keep_to_their_pages}
+use Rattle.two_sides.specs.Lists.{lists_end_well, long_lists_end_well, lists_keep_to_their_pages, short_lists_end}
 use Rattle.page_ledger.specs.Owners.{is_among}
 
 -- The walk of a list that spells parts reads where its segments lie, and moves where its parts lie.
@@ -223,7 +223,8 @@ list_in chain own m sgl1 first parts dir need spelled (segments, few, by) lie = 
       (read_in chain own m dir need 4095 (from_in chain own m dir need 4095) entry_cursor need first [] segments parts refl tt (spells_ahead (only chain m) first segments parts by) lie),
 )
 
--- The walk of a list that spells parts which are there, and count what is moved or more, ends without a fault.
+-- The walk of a list that spells parts which are there ends without a fault where they count what is moved or more, and else for want of
+-- a byte.
 
 -- Bytes that are there
 
@@ -326,9 +327,28 @@ fronts_join dir before wanted part parts =
 
 -- Courses that end
 
--- The course ends without a fault, and what it takes behind other parts has the wanted front of the targets of these.
+-- how a course ends that wants so many bytes of parts that count so many
+abbrev end_of : ℕ → ℕ → WalkState
+end_of wanted count = if nat_lt count wanted then Fault DATA_SGL_LENGTH_INVALID else End
+
+enough_ends : (wanted count : ℕ) → wanted ≤ count → end_of wanted count ≡ End
+enough_ends wanted count enough = ap (λ (b : Bool). if b then Fault DATA_SGL_LENGTH_INVALID else End) (not_less count wanted enough)
+
+short_ends : (wanted count : ℕ) → count < wanted → end_of wanted count ≡ Fault DATA_SGL_LENGTH_INVALID
+short_ends wanted count short =
+    let less : nat_lt count wanted ≡ true = grind (arith, nat_tests) in
+    ap (λ (b : Bool). if b then Fault DATA_SGL_LENGTH_INVALID else End) less
+
+-- a part less is wanted where it is taken
+end_behind : (wanted count behind : ℕ) → end_of (wanted - count) behind ≡ end_of wanted (count + behind)
+end_behind wanted count behind = elim (cases_lt (count + behind) wanted) [
+  | inl short ↦ short_ends (wanted - count) behind (omega (arith, short)) ∙ sym (short_ends wanted (count + behind) short)
+  | inr enough ↦ enough_ends (wanted - count) behind (omega (arith, enough)) ∙ sym (enough_ends wanted (count + behind) enough)
+]
+
+-- The course ends so, and what it takes behind other parts has the wanted front of the targets of these.
 record EndsWith (m : Memory) (dir : Direction) (need wanted : ℕ) (parts : List Part) (c : Course) : Type 0 where
-  ends : verdict c ≡ End
+  ends : verdict c ≡ end_of wanted (counted_in dir parts)
   takes : (before : List Part) → counted_in dir before + wanted ≡ need → targets dir (parts_taken m dir need before c) ≡ targets dir before ++ take wanted (targets dir parts)
 
 moves_on : (m : Memory) (dir : Direction) (need wanted : ℕ) (parts : List Part) (rest : Course) → EndsWith m dir need wanted parts rest → (n place len offset : ℕ) → n ≡ pages_spanned place len
@@ -347,8 +367,14 @@ moves_on m dir need wanted parts rest h (suc n) place len offset pages there =
 
 -- where no byte is wanted any more, the course is over
 over_ends : (m : Memory) (dir : Direction) (need k : ℕ) (after : Option Cursor) (wanted : ℕ) (parts : List Part) → wanted ≡ 0 → EndsWith m dir need wanted parts (rest_of k m dir need after wanted)
-over_ends m dir need k None wanted parts none = rw none (record { ends = refl; takes = λ before sum. sym (append-nil (targets dir before)) })
-over_ends m dir need k (Some c) wanted parts none = rw none (record { ends = refl; takes = λ before sum. sym (append-nil (targets dir before)) })
+over_ends m dir need k None wanted parts none = rw none (record { ends = sym (enough_ends 0 (counted_in dir parts) (omega arith)); takes = λ before sum. sym (append-nil (targets dir before)) })
+over_ends m dir need k (Some c) wanted parts none = rw none (record { ends = sym (enough_ends 0 (counted_in dir parts) (omega arith)); takes = λ before sum. sym (append-nil (targets dir before)) })
+
+-- where no descriptor is left, it is over too
+nothing_left : (m : Memory) (dir : Direction) (need k wanted : ℕ) (parts : List Part) → parts ≡ [] → EndsWith m dir need wanted parts (rest_of k m dir need None wanted)
+nothing_left m dir need k zero parts none = over_ends m dir need k None zero parts refl
+nothing_left m dir need k (suc n) parts none =
+    rw (none, still_wants (suc n) (λ z. omega (arith, z))) (record { ends = sym (short_ends (suc n) 0 (omega arith)); takes = λ before sum. sym (append-nil (targets dir before)) })
 
 -- else the descriptor is next
 wanted_ends : (m : Memory) (dir : Direction) (need k : ℕ) (c : Cursor) (wanted : ℕ) (parts : List Part) → 0 < wanted → EndsWith m dir need wanted parts (from_place k m dir need c wanted)
@@ -360,28 +386,29 @@ abbrev FromEnds : Memory → Direction → ℕ → ℕ → Type 0
 FromEnds m dir need k =
     (c : Cursor) (wanted : ℕ) (d : Descriptor) (ds : List Descriptor) (segments : List (List Descriptor)) (parts : List Part)
     → c.left ≡ length (d ∷ ds) → Stand m c.place (d ∷ ds) → Ahead m c.named (d ∷ ds) segments parts → length (d ∷ ds) + descriptors_in segments ≤ k
-    → wanted ≤ counted_in dir parts → AllByRecursion (IsThere m) parts → EndsWith m dir need wanted parts (from_place k m dir need c wanted)
+    → AllByRecursion (IsThere m) parts → EndsWith m dir need wanted parts (from_place k m dir need c wanted)
 
 next_ends : (m : Memory) (dir : Direction) (need k : ℕ) → FromEnds m dir need k
     → (c : Cursor) (wanted : ℕ) (d : Descriptor) (ds : List Descriptor) (segments : List (List Descriptor)) (parts : List Part)
     → c.left ≡ length (d ∷ ds) → Stand m (c.place + 16) ds → Ahead m c.named ds segments parts → (ds ≡ [] → parts ≡ []) → length ds + descriptors_in segments ≤ k
-    → wanted ≤ counted_in dir parts → AllByRecursion (IsThere m) parts → EndsWith m dir need wanted parts (rest_of k m dir need (next c) wanted)
-next_ends m dir need k from c wanted d [] segments parts left stand ahead none few count there =
-    let zero' : counted_in dir parts ≡ 0 = ap (counted_in dir) (none refl) in over_ends m dir need k (next c) wanted parts (omega (arith, count, zero'))
-next_ends m dir need k from c wanted d (e ∷ es) segments parts left stand ahead none few count there =
+    → AllByRecursion (IsThere m) parts → EndsWith m dir need wanted parts (rest_of k m dir need (next c) wanted)
+next_ends m dir need k from c wanted d [] segments parts left stand ahead none few there =
+    subst (λ (n : ℕ). EndsWith m dir need wanted parts (rest_of k m dir need (if nat_lt 1 n then Some (record { place = c.place + 16; left = c.left - 1; named = c.named }) else None) wanted)) (sym left)
+    (nothing_left m dir need k wanted parts (none refl))
+next_ends m dir need k from c wanted d (e ∷ es) segments parts left stand ahead none few there =
     let more : (n l : ℕ) → n ≡ suc (suc l) → nat_lt 1 n ≡ true = λ n l e. grind (arith, nat_tests) in
     elim (cases_Bool (nat_eq wanted 0)) [
       | inl z ↦ over_ends m dir need k (next c) wanted parts ((is_wanted wanted).0 z)
       | inr z ↦
           subst (λ (b : Bool). EndsWith m dir need wanted parts (rest_of k m dir need (if b then Some (record { place = c.place + 16; left = c.left - 1; named = c.named }) else None) wanted)) (sym (more c.left (length es) left))
           (wanted_ends m dir need k (record { place = c.place + 16; left = c.left - 1; named = c.named }) wanted parts ((is_wanted wanted).1 z)
-          (from (record { place = c.place + 16; left = c.left - 1; named = c.named }) wanted e es segments parts (omega (arith, left)) stand ahead few count there))
+          (from (record { place = c.place + 16; left = c.left - 1; named = c.named }) wanted e es segments parts (omega (arith, left)) stand ahead few there))
     ]
 
 -- a part's course, its descriptor taken already
 abbrev EndsBehind : Memory → Direction → ℕ → ℕ → Descriptor → List Part → Course → Type 0
 EndsBehind m dir need wanted d parts c =
-    (verdict c ≡ End)
+    (verdict c ≡ end_of wanted (counted_in dir parts))
     × ((before : List Part) → counted_in dir before + wanted ≡ need → targets dir (parts_taken m dir need (taken dir need before (Some d)) c) ≡ targets dir before ++ take wanted (targets dir parts))
 
 part_ends : (m : Memory) (dir : Direction) (need k : ℕ) (c : Cursor) (wanted : ℕ) (part : Part) (parts : List Part) → IsThere m part
@@ -389,7 +416,7 @@ part_ends : (m : Memory) (dir : Direction) (need k : ℕ) (c : Cursor) (wanted :
     → EndsBehind m dir need wanted (descriptor_of_part part) (part ∷ parts) (goes_on m dir need c wanted (rest_of k m dir need) (descriptor_of_part part))
 part_ends m dir need k c wanted (Data addr len) parts there h =
     let on = moves_on m dir need (wanted - len) parts _ h (pages_spanned addr (min len wanted)) addr (min len wanted) (need - wanted) refl (λ i lt. there.1 i (omega arith)) in (
-      on.ends,
+      on.ends ∙ end_behind wanted len (counted_in dir parts),
       λ before sum.
           subst
           (λ (w : ℕ). targets dir (parts_taken m dir need (before ++ Data addr (min len w) ∷ []) (goes_on m dir need c wanted (rest_of k m dir need) (DataBlock addr len))) ≡ targets dir before ++ take wanted (targets dir (Data addr len ∷ parts)))
@@ -397,7 +424,7 @@ part_ends m dir need k c wanted (Data addr len) parts there h =
           (on.takes (before ++ Data addr (min len wanted) ∷ []) (count_one dir before (Data addr (min len wanted)) len wanted need (omega arith) sum) ∙ fronts_join dir before wanted (Data addr len) parts),
     )
 part_ends m dir need k c wanted (Bucket len) parts there h = (
-  h.ends,
+  h.ends ∙ end_behind wanted (counted dir (BitBucket len)) (counted_in dir parts),
   λ before sum.
       subst
       (λ (w : ℕ). targets dir (parts_taken m dir need (before ++ Bucket (min len w) ∷ []) (goes_on m dir need c wanted (rest_of k m dir need) (BitBucket len))) ≡ targets dir before ++ take wanted (targets dir (Bucket len ∷ parts)))
@@ -409,15 +436,15 @@ below_end : (m : Memory) → ((place : ℕ) → is_some (m place) ≡ true → p
 below_end m low addr len d ds whole stand = let last = low (addr + 16 * length ds + 15) (end_of_stand m addr d ds stand) in omega (arith, whole, last)
 
 start_ends : (m : Memory) (dir : Direction) (need k : ℕ) → FromEnds m dir need k → (named : Named) (addr len wanted : ℕ) (segments : List (List Descriptor)) (parts : List Part)
-    → LinkedTo m named addr len segments parts → descriptors_in segments ≤ k → wanted ≤ counted_in dir parts → AllByRecursion (IsThere m) parts
+    → LinkedTo m named addr len segments parts → descriptors_in segments ≤ k → AllByRecursion (IsThere m) parts
     → EndsWith m dir need wanted parts (rest_of k m dir need (Some (segment_start named addr len)) wanted)
-start_ends m dir need k from named addr len wanted segments parts to few count there =
+start_ends m dir need k from named addr len wanted segments parts to few there =
     elim (cases_Bool (nat_eq wanted 0)) [
       | inl z ↦ over_ends m dir need k (Some (segment_start named addr len)) wanted parts ((is_wanted wanted).0 z)
       | inr z ↦
           wanted_ends m dir need k (segment_start named addr len) wanted parts ((is_wanted wanted).1 z)
           (from (segment_start named addr len) wanted to.first to.others to.segments parts (omega (arith, to.whole)) to.stand to.ahead
-          (subst (λ (xs : List (List Descriptor)). descriptors_in xs ≤ k) to.are few) count there)
+          (subst (λ (xs : List (List Descriptor)). descriptors_in xs ≤ k) to.are few) there)
     ]
 
 unless_ends : (m : Memory) (dir : Direction) (need wanted : ℕ) (d : Descriptor) (parts : List Part) (f : Option Status) (c : Course) → f ≡ None → EndsBehind m dir need wanted d parts c → EndsBehind m dir need wanted d parts (unless_fault f c)
@@ -425,19 +452,19 @@ unless_ends m dir need wanted d parts f c none h = rw none h
 
 link_ends : (m : Memory) (dir : Direction) (need k : ℕ) → ((place : ℕ) → is_some (m place) ≡ true → place < 2 ^ 64) → FromEnds m dir need k
     → (c : Cursor) (wanted : ℕ) (d : Descriptor) (segments : List (List Descriptor)) (parts : List Part)
-    → IsLink d → named_last c.named ≡ false → c.left ≡ 1 → SpellsBy m d segments parts → descriptors_in segments ≤ k → wanted ≤ counted_in dir parts → AllByRecursion (IsThere m) parts
+    → IsLink d → named_last c.named ≡ false → c.left ≡ 1 → SpellsBy m d segments parts → descriptors_in segments ≤ k → AllByRecursion (IsThere m) parts
     → EndsBehind m dir need wanted d parts (unless_fault (first_fault c d) (goes_on m dir need c wanted (rest_of k m dir need) d))
-link_ends m dir need k low from c wanted (DataBlock addr len) segments parts link named left by few count there = absurd (true≢false (sym link))
-link_ends m dir need k low from c wanted (BitBucket len) segments parts link named left by few count there = absurd (true≢false (sym link))
-link_ends m dir need k low from c wanted (Segment addr len) segments parts link named left by few count there =
+link_ends m dir need k low from c wanted (DataBlock addr len) segments parts link named left by few there = absurd (true≢false (sym link))
+link_ends m dir need k low from c wanted (BitBucket len) segments parts link named left by few there = absurd (true≢false (sym link))
+link_ends m dir need k low from c wanted (Segment addr len) segments parts link named left by few there =
     let to = linked_on m addr len segments parts by in
-    let ends = start_ends m dir need k from BySegment addr len wanted segments parts to few count there in
+    let ends = start_ends m dir need k from BySegment addr len wanted segments parts to few there in
     unless_ends m dir need wanted (Segment addr len) parts (first_fault c (Segment addr len)) (rest_of k m dir need (Some (segment_start BySegment addr len)) wanted)
     (no_fault_of_link c addr len (length to.others) named left to.aligned to.whole (below_end m low addr len to.first to.others to.whole to.stand)).0
     (ends.ends, ends.takes)
-link_ends m dir need k low from c wanted (LastSegment addr len) segments parts link named left by few count there =
+link_ends m dir need k low from c wanted (LastSegment addr len) segments parts link named left by few there =
     let to = linked_last m addr len segments parts by in
-    let ends = start_ends m dir need k from ByLastSegment addr len wanted segments parts to few count there in
+    let ends = start_ends m dir need k from ByLastSegment addr len wanted segments parts to few there in
     unless_ends m dir need wanted (LastSegment addr len) parts (first_fault c (LastSegment addr len)) (rest_of k m dir need (Some (segment_start ByLastSegment addr len)) wanted)
     (no_fault_of_link c addr len (length to.others) named left to.aligned to.whole (below_end m low addr len to.first to.others to.whole to.stand)).1
     (ends.ends, ends.takes)
@@ -445,14 +472,13 @@ link_ends m dir need k low from c wanted (LastSegment addr len) segments parts l
 read_ends : (m : Memory) (dir : Direction) (need k : ℕ) → ((place : ℕ) → is_some (m place) ≡ true → place < 2 ^ 64) → FromEnds m dir need k
     → (c : Cursor) (wanted : ℕ) (d : Descriptor) (ds : List Descriptor) (segments : List (List Descriptor)) (parts : List Part)
     → c.left ≡ length (d ∷ ds) → Stand m (c.place + 16) ds → Ahead m c.named (d ∷ ds) segments parts → length ds + descriptors_in segments ≤ k
-    → wanted ≤ counted_in dir parts → AllByRecursion (IsThere m) parts
+    → AllByRecursion (IsThere m) parts
     → EndsBehind m dir need wanted d parts (after_read m dir need c wanted (rest_of k m dir need) (Some d))
-read_ends m dir need k low from c wanted d ds segments parts left stand ahead few count there = go (first_ahead m c.named d ds segments parts ahead)
+read_ends m dir need k low from c wanted d ds segments parts left stand ahead few there = go (first_ahead m c.named d ds segments parts ahead)
   where
     go : PartFirst m c.named d ds segments parts ⊎ LinkFirst m c.named d ds segments parts → EndsBehind m dir need wanted d parts (after_read m dir need c wanted (rest_of k m dir need) (Some d))
     go (inl p) =
         let there' : AllByRecursion (IsThere m) (p.part ∷ p.parts') = subst (AllByRecursion (IsThere m)) p.all there in
-        let count' : counted_in dir parts ≡ counted dir (descriptor_of_part p.part) + counted_in dir p.parts' = ap (counted_in dir) p.all in
         subst (λ (x : Descriptor). EndsBehind m dir need wanted x parts (after_read m dir need c wanted (rest_of k m dir need) (Some x))) (sym p.is)
         (subst (λ (ps : List Part). EndsBehind m dir need wanted (descriptor_of_part p.part) ps (after_read m dir need c wanted (rest_of k m dir need) (Some (descriptor_of_part p.part)))) (sym p.all)
         (unless_ends m dir need wanted (descriptor_of_part p.part) (p.part ∷ p.parts') (first_fault c (descriptor_of_part p.part)) (goes_on m dir need c wanted (rest_of k m dir need) (descriptor_of_part p.part))
@@ -463,35 +489,47 @@ read_ends m dir need k low from c wanted d ds segments parts left stand ahead fe
         (subst (λ (b : Bool). (not b && named_on c.named && nat_eq c.left 1) ≡ false) (sym (no_link p.part)) (fourth_row c.named c.left (λ one. (p.behind_it (alone ds (sym left ∙ one))).0)))
         (part_fits m p.part there'.0))
         (part_ends m dir need k c wanted p.part p.parts' there'.0
-        (next_ends m dir need k from c (wanted - counted dir (descriptor_of_part p.part)) d ds segments p.parts' left stand p.ahead (λ z. (p.behind_it z).2) few (omega (arith, count, count')) there'.1))))
+        (next_ends m dir need k from c (wanted - counted dir (descriptor_of_part p.part)) d ds segments p.parts' left stand p.ahead (λ z. (p.behind_it z).2) few there'.1))))
       where
         alone : (ds : List Descriptor) → suc (length ds) ≡ 1 → ds ≡ []
         alone [] e = refl
         alone (x ∷ xs) e = absurd (omega (arith, e))
     go (inr l) =
-        link_ends m dir need k low from c wanted d segments parts l.link l.named_so (left ∙ ap (λ (xs : List Descriptor). suc (length xs)) l.is_last) l.by (omega (arith, few)) count there
+        link_ends m dir need k low from c wanted d segments parts l.link l.named_so (left ∙ ap (λ (xs : List Descriptor). suc (length xs)) l.is_last) l.by (omega (arith, few)) there
 
 from_ends : (m : Memory) (dir : Direction) (need : ℕ) → ((place : ℕ) → is_some (m place) ≡ true → place < 2 ^ 64) → (k : ℕ) → FromEnds m dir need k
-from_ends m dir need low zero c wanted d ds segments parts left stand ahead few count there = absurd (omega (arith, few))
-from_ends m dir need low (suc k) c wanted d ds segments parts left ((bytes, is_there, is), stand) ahead few count there =
+from_ends m dir need low zero c wanted d ds segments parts left stand ahead few there = absurd (omega (arith, few))
+from_ends m dir need low (suc k) c wanted d ds segments parts left ((bytes, is_there, is), stand) ahead few there =
     let sub_suc : (k : ℕ) → suc k - 1 ≡ k = λ k. omega arith in
     subst (EndsWith m dir need wanted parts) (sym (from_read (suc k) m dir need c wanted bytes (omega arith) is_there))
     (subst (λ (n : ℕ). EndsWith m dir need wanted parts (Does (Reads c.place) (after_read m dir need c wanted (rest_of n m dir need) (descriptor_of bytes)))) (sym (sub_suc k))
-    (let ends = read_ends m dir need k low (from_ends m dir need low k) c wanted d ds segments parts left stand ahead (omega (arith, few)) count there in
+    (let ends = read_ends m dir need k low (from_ends m dir need low k) c wanted d ds segments parts left stand ahead (omega (arith, few)) there in
     record {
-      ends = subst (λ (o : Option Descriptor). verdict (after_read m dir need c wanted (rest_of k m dir need) o) ≡ End) (sym (found bytes d is)) ends.0;
+      ends = subst (λ (o : Option Descriptor). verdict (after_read m dir need c wanted (rest_of k m dir need) o) ≡ end_of wanted (counted_in dir parts)) (sym (found bytes d is)) ends.0;
       takes = λ before sum.
           subst (λ (o : Option (List ℕ)). targets dir (parts_taken m dir need (taken dir need before (option_and_then descriptor_of o)) (after_read m dir need c wanted (rest_of k m dir need) (descriptor_of bytes))) ≡ targets dir before ++ take wanted (targets dir parts)) (sym is_there)
           (subst (λ (o : Option Descriptor). targets dir (parts_taken m dir need (taken dir need before o) (after_read m dir need c wanted (rest_of k m dir need) o)) ≡ targets dir before ++ take wanted (targets dir parts)) (sym (found bytes d is)) (ends.1 before sum));
     }))
 
-pub long_lists_end : long_lists_end_well
-long_lists_end m sgl1 first parts dir need low spelled (segments, few, by) there count =
-    let ends = read_ends m dir need 4095 low (from_ends m dir need low 4095) entry_cursor need first [] segments parts refl tt (spells_ahead m first segments parts by) (omega (arith, few)) count there in (
-      subst (λ (o : Option Descriptor). verdict (after_read m dir need entry_cursor need (rest_of 4095 m dir need) o) ≡ End) (sym spelled) ends.0,
+-- from its entry's descriptor on
+list_ends : (m : Memory) (sgl1 : List ℕ) (first : Descriptor) (parts : List Part) (dir : Direction) (need : ℕ)
+    → ((place : ℕ) → is_some (m place) ≡ true → place < 2 ^ 64) → descriptor_of sgl1 ≡ Some first → Spells m first parts → AllByRecursion (IsThere m) parts
+    → (verdict_of_list m sgl1 dir need ≡ end_of need (counted_in dir parts)) × (targets dir (parts_of_list m sgl1 dir need) ≡ take need (targets dir parts))
+list_ends m sgl1 first parts dir need low spelled (segments, few, by) there =
+    let ends = read_ends m dir need 4095 low (from_ends m dir need low 4095) entry_cursor need first [] segments parts refl tt (spells_ahead m first segments parts by) (omega (arith, few)) there in (
+      subst (λ (o : Option Descriptor). verdict (after_read m dir need entry_cursor need (rest_of 4095 m dir need) o) ≡ end_of need (counted_in dir parts)) (sym spelled) ends.0,
       subst (λ (o : Option Descriptor). targets dir (parts_taken m dir need (taken dir need [] o) (after_read m dir need entry_cursor need (rest_of 4095 m dir need) o)) ≡ take need (targets dir parts)) (sym spelled)
           (ends.1 [] (omega arith)),
     )
+
+pub long_lists_end : long_lists_end_well
+long_lists_end m sgl1 first parts dir need low spelled spells there enough =
+    let both = list_ends m sgl1 first parts dir need low spelled spells there in
+    (both.0 ∙ enough_ends need (counted_in dir parts) enough, both.1)
+
+pub shorter_lists_end : short_lists_end
+shorter_lists_end m sgl1 first parts dir need low spelled spells there short =
+    (list_ends m sgl1 first parts dir need low spelled spells there).0 ∙ short_ends need (counted_in dir parts) short
 
 pub lists_end : lists_end_well
 lists_end m sgl1 first parts dir need low spelled spells there count =

@@ -11,7 +11,7 @@ use Rattle.sgl_descriptor.specs.{Spelling.{descriptor_of, spelling}, declared.{D
 use Rattle.controller_walk.{proofs.Along.list_moves_along, specs.Along.{MovesAlong, taken, descriptor_at}}
 use Rattle.controller_walk.specs.{Units.{Stays, Reads, Moves, Course, Closes, Does, units, Act, touched}, declared.walk.WalkState.WalkState}
 use Rattle.io_commands.{proofs.{Building.carries_entry, Pointers.length-pointer_of}, specs.{Asked.Request, Drafts.{io_entry, pointer_of, DraftContents, draft_first, entry_of}, Jobs.{direction_of_entry, need_of_entry}}}
-use Rattle.io_commands.specs.{Requests.joined_parts, Values.numbers_of, declared.request.Kind.{Kind, TheVariants.{Read, Write, Compare, WriteZeroes, Verify, Flush, Admin}}}
+use Rattle.io_commands.specs.{Requests.joined_parts, Values.numbers_of, declared.request.Kind.{Kind, TheVariants.{Read, Write, Compare, WriteZeroes, Verify, Flush, Deallocate, Admin}}}
 use Rattle.block_image.specs.Blocks.{with_blocks}
 use Rattle.machine_model.proofs.Moves.{host_moves, posted_bytes, sends, sent_record, half_from, creates_cq, creates_sq, grants_cq, grants_sq}
 use Rattle.machine_model.{proofs.Steps.{Accepts, part_left, permitted, exact, managed_by, surely}, specs.After.course_of}
@@ -150,7 +150,7 @@ stood_has_chains end stood q cid r found sub =
         let l = c.1 sub in
         record {
           first = l.first;
-          spells = λ moves. spells_there (only (on_pages r.chain_pages) (byte_at end.memory)) (byte_at end.memory) (more_than_only (on_pages r.chain_pages) (byte_at end.memory)) l.first (joined_parts request.pieces r.data_pages) (l.spells moves);
+          spells = λ has. spells_there (only (on_pages r.chain_pages) (byte_at end.memory)) (byte_at end.memory) (more_than_only (on_pages r.chain_pages) (byte_at end.memory)) l.first (joined_parts request.pieces r.data_pages) (l.spells has);
           named = all-to (λ e. e.sgl1 ≡ pointer_of request.kind (spelling l.first)) (entries_of end r.q r.cid) (entries_named end r.q r.cid (io_entry r.cid request (spelling l.first)) l.entry);
         }
     of (Management adm) c = tt
@@ -349,6 +349,7 @@ length-entry_of Compare cid r sgl1 pages count = length-pointer_of r.kind sgl1 c
 length-entry_of WriteZeroes cid r sgl1 pages count = length-pointer_of r.kind sgl1 count
 length-entry_of Verify cid r sgl1 pages count = length-pointer_of r.kind sgl1 count
 length-entry_of Flush cid r sgl1 pages count = length-pointer_of r.kind sgl1 count
+length-entry_of Deallocate cid r sgl1 pages count = length-pointer_of r.kind sgl1 count
 length-entry_of (Admin command) cid r sgl1 [] count = refl
 length-entry_of (Admin command) cid r sgl1 (page ∷ pages) count = refl
 

@@ -21,7 +21,7 @@ use Rattle.admin_commands.specs.declared.{AdminKind.TheVariants.{Abort, DeleteSq
 use Rattle.entry_codec.specs.{Status.is_success, declared.{completion.ComEntry.ComEntry, status.Status.Status}}
 use Rattle.entry_codec.specs.declared.{status.TheConstants.Status.{COMMAND_ID_CONFLICT, ABORT_REQUESTED, ABORTED_SQ_DELETION}, submission.SubEntry.SubEntry}
 use Rattle.io_commands.{proofs.Building.carries_entry, specs.{Drafts.{DraftContents, draft_entry, draft_first, entry_of as draft_entry_of}, Jobs.{io_fault, bytes_after_check}, Values.numbers_of}}
-use Rattle.io_commands.specs.declared.request.Kind.{Kind, TheVariants.{Read, Write, Compare, WriteZeroes, Verify, Flush, Admin}}
+use Rattle.io_commands.specs.declared.request.Kind.{Kind, TheVariants.{Read, Write, Compare, WriteZeroes, Verify, Flush, Deallocate, Admin}}
 use Rattle.sgl_descriptor.specs.Spelling.{spelling}
 use Rattle.queue_pair.specs.{Members.change, Rings.{HostRing, next_tail, next_head, knowing}}
 use Rattle.two_sides.proofs.ControllerMoves.{posts_completion, posted_completion, unit_done, finished, cleared, fetch_by, walk_by, complete_by}
@@ -450,6 +450,7 @@ entry_cid d = go d.request.kind
     go WriteZeroes = refl
     go Verify = refl
     go Flush = refl
+    go Deallocate = refl
     go (Admin command) = refl
 
 places_host : (s : State) (e : Event) (reply : Reply) → IsProper e → Accepts s e reply → IsController e ≡ false → s.trusted ≡ true → Grounds s → PlacesIn s → PlacesIn (a.after s e reply)

@@ -7,7 +7,7 @@ use Rattle.entry_codec.{proofs.SubmissionLemmas.round_trip, specs.Bytes.IsBytes}
 use Rattle.entry_codec.specs.{Submission.{FitsSubmission, IsSubEntry, command_words, submission_bytes, submission_of}, declared.completion.ComEntry.ComEntry}
 use Rattle.entry_codec.specs.declared.submission.SubEntry.{SubEntry}
 use Rattle.io_commands.proofs.{Building.{carries_entry, draft_of_blocks, few_blocks, flags_fit}, Pointers.psdt_fits}
-use Rattle.io_commands.specs.{Drafts.{DraftContents, draft_first, pointer_of}, Requests.{is_admin, moves_data, opcode_of}, declared.request.Kind.{Kind, TheVariants.{Admin}}}
+use Rattle.io_commands.specs.{Drafts.{DraftContents, draft_first, pointer_of}, Requests.{flag_bits, has_list, is_admin, names_ranges, opcode_of}, declared.request.Kind.{Kind, TheVariants.{Admin}}}
 use Rattle.machine_model.specs.{Memory.memory_of, Proper.IsProperDraft, Refusals.{slot_page, slot_offset}}
 use Rattle.machine_model.specs.State.{HostQueue, ServedQueue}
 use Rattle.sgl_descriptor.specs.{Spelling.{spelling, descriptor_bytes}, declared.Descriptor.Descriptor}
@@ -69,15 +69,19 @@ pointer_is_bytes address =
           (byte _, (byte _, (byte _, (byte _, (byte _, (byte _, (byte _, (byte _, (zero_byte, (zero_byte, (zero_byte, (zero_byte, (zero_byte, (zero_byte, (zero_byte, (zero_byte, tt))))))))))))))));
     }
 
--- a command that moves no data has zeros there
+-- a command without a list has zeros there
 pointer_in_bytes : (kind : Kind) (sgl1 : List ℕ) → IsBytes 16 sgl1 → IsBytes 16 (pointer_of kind sgl1)
-pointer_in_bytes kind sgl1 bytes = go (moves_data kind)
+pointer_in_bytes kind sgl1 bytes = go (has_list kind)
   where
-    go : (moves : Bool) → IsBytes 16 (if moves then sgl1 else replicate 16 0)
+    go : (list : Bool) → IsBytes 16 (if list then sgl1 else replicate 16 0)
     go true = bytes
     go false = descriptor_is_bytes 0 0 0 (omega arith)
 
 -- The entries
+
+either_below : (b : Bool) (x y n : ℕ) → x < n → y < n → (if b then x else y) < n
+either_below true x y n low low' = low
+either_below false x y n low low' = low'
 
 opcode_fits : (kind : Kind) → is_admin kind ≡ false → opcode_of kind < 2 ^ 8
 opcode_fits (Admin command) far = absurd (true≢false far)
@@ -86,6 +90,8 @@ opcode_fits kind far = grind arith
 pub draft_typed : (d : DraftContents) (entry : SubEntry) → IsProperDraft d → is_admin d.request.kind ≡ false → d.cid < 2 ^ 16 → d.entry ≡ Some entry → IsTyped entry
 draft_typed d entry proper blocks cid built =
     let request = proper.request in
+    let ranges = names_ranges d.request.kind in
+    let few = few_blocks d.request.kind d.request.block_size d.request.blocks d.request.pieces proper.draft.good in
     subst IsTyped (sym (carries_entry d entry proper.draft built ∙ draft_of_blocks d blocks)) (record {
       typed = record {
         opcode = opcode_fits d.request.kind blocks;
@@ -93,14 +99,14 @@ draft_typed d entry proper blocks cid built =
         nsid = request.nsid;
         mptr = omega arith;
         sgl1 = pointer_in_bytes d.request.kind (spelling (draft_first d)) (spelled_in_bytes (draft_first d));
-        cdw10 = omega arith;
-        cdw11 = omega (arith, request.slba);
-        cdw12 = omega (arith, few_blocks d.request.kind d.request.block_size d.request.blocks d.request.pieces proper.draft.good, flags_fit d.request.flags);
+        cdw10 = either_below ranges (d.request.blocks - 1) (d.request.slba % 4294967296) (2 ^ 32) (omega (arith, few)) (omega arith);
+        cdw11 = either_below ranges 4 (d.request.slba / 4294967296) (2 ^ 32) (omega arith) (omega (arith, request.slba));
+        cdw12 = either_below ranges 0 (d.request.blocks - 1 + flag_bits d.request.flags) (2 ^ 32) (omega arith) (omega (arith, few, flags_fit d.request.flags));
         cdw13 = omega arith;
         cdw14 = omega arith;
         cdw15 = omega arith;
       };
-      fits = record { fuse = omega arith; psdt = psdt_fits (moves_data d.request.kind) };
+      fits = record { fuse = omega arith; psdt = psdt_fits (has_list d.request.kind) };
     })
 
 pub admin_typed : (kind : AdminKind) (cid : ℕ) → cid < 2 ^ 16 → named_by kind < 2 ^ 32 → qualified_by kind < 2 ^ 32 → IsTyped (admin_entry kind cid)

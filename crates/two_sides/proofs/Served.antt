@@ -9,13 +9,13 @@ use Rattle.page_ledger.specs.Owners.{is_among}
 use Rattle.page_memory.{proofs.Bytes.{byte_in, length-zero_page}, specs.{Memory.{page_of, Memory}, Pages.{Pages, page_at, byte_at, zero_page, AreWhole}}}
 use Rattle.sgl_descriptor.{proofs.Spells.reads_itself, specs.{Spelling.{Fits, spelling, descriptor_of}, Targets.{counted_in, descriptor_of_part, targets}}}
 use Rattle.sgl_descriptor.specs.declared.{Descriptor.{Descriptor, TheVariants.{DataBlock, Segment, LastSegment}}, Direction.Direction, Part.{Part, TheVariants.Data as PartData}}
-use Rattle.io_commands.{proofs.{Building.{counted, entry_blocks, joined_parts_few, built_drafts_spell, few_pieces, no_pieces}, Pointers.{pointer_moves, pointer_still}}, specs.Asked.Request}
+use Rattle.io_commands.{proofs.{Building.{counted, entry_blocks, joined_parts_few, built_drafts_spell, few_pieces, no_pieces}, Pointers.{moves_list, pointer_lists, pointer_still}}, specs.Asked.Request}
 use Rattle.io_commands.specs.Drafts.{io_entry, DraftContents, HoldsPages, draft_first, draft_parts, IsDraft, IsBuiltIfAny}
 use Rattle.io_commands.specs.Jobs.{direction_by, direction_of_entry, kind_of_opcode, need_of_entry}
-use Rattle.io_commands.specs.Requests.{parts_of, data_count, has_its_bytes, is_admin, is_empty_piece, is_hosts_own, crosses_page, counted_length, counted_lengths, is_count, moves_data}
+use Rattle.io_commands.specs.Requests.{parts_of, data_count, has_its_bytes, has_list, is_admin, is_empty_piece, is_hosts_own, crosses_page, counted_length, counted_lengths, is_count, moves_data, need_of_ranges, same_flags, same_kind}
 use Rattle.io_commands.specs.Requests.{need_of, direction_of, opcode_of, FitsPiece, joined_parts, FitsRequest, fault_of}
-use Rattle.io_commands.specs.{Values.{IsGood, numbers_of, FinishedContents}, declared.admin.{AdminCommand.AdminCommand, PageUse.PageUse}}
-use Rattle.io_commands.specs.declared.request.{Flags.Flags, Kind.{Kind, TheVariants.{Read, Write, Compare, WriteZeroes, Verify, Flush, Admin}}, Piece.Piece}
+use Rattle.io_commands.specs.{Values.{IsGood, numbers_of, FinishedContents}, Admin.{same_command, same_use}, declared.admin.{AdminCommand.AdminCommand, PageUse.PageUse}}
+use Rattle.io_commands.specs.declared.request.{Flags.Flags, Kind.{Kind, TheVariants.{Read, Write, Compare, WriteZeroes, Verify, Flush, Deallocate, Admin}}, Piece.Piece}
 use Rattle.io_commands.specs.declared.request.{Piece.TheVariants.{Data, Bucket}, RequestFault.RequestFault}
 use Rattle.io_commands.specs.declared.request.RequestFault.TheVariants.{TooManyPieces, EmptyPiece, CrossesPage, BadCount, LengthMismatch, HostsOwn}
 use Rattle.io_commands.specs.{BlockSizes.{block_bytes}, declared.block_size.BlockSize.{BlockSize, TheVariants.{Bytes512, Bytes1024, Bytes2048, Bytes4096}}}
@@ -24,7 +24,7 @@ use Rattle.machine_model.proofs.Owned.{in_record, is_out, taken, none_here, in_i
 use Rattle.machine_model.{proofs.Steps.{first_fails, rest_fails, in_store, length-in_store, found, unrefused}, specs.After.course_of}
 use Rattle.machine_model.specs.{Claims.{OwnsFit, IsSound}, Memory.{memory_of, with_pages, is_in}, Proper.{IsPage, ArePages, IsProperDraft}}
 use Rattle.machine_model.specs.Reached.{on_pages, LiesIn, IsThere, only, CourseIn, AreApart, IsListIn}
-use Rattle.machine_model.specs.Refusals.{is_submitted, same_command, same_piece, same_pieces, same_kind, same_flags, same_request, same_use, refusal_of, record_is, is_held, takes}
+use Rattle.machine_model.specs.Refusals.{is_submitted, same_piece, same_pieces, same_request, refusal_of, record_is, is_held, takes}
 use Rattle.machine_model.specs.{Standing.{IsSized, ListStands, StandsAs, CommandStands, HasUnitLeft}, State.{State, Record, Job, is_at, record_at, pages_of}}
 use Rattle.machine_model.specs.{Step.{times, IsReserved, AnswersAnything, asked_by, finished_from, pages_with_bytes, zeroed}, Weights.{one, total}, Work.Work}
 use Rattle.machine_model.specs.declared.words.{Peer.TheVariants.{Modelled}, Phase.TheVariants.{Drafted, Submitted, Held, Collected}, Work.TheVariants.{Io, Management}}
@@ -33,7 +33,7 @@ use Rattle.sgl_chain.specs.{Chains.{first_of, pages_needed}, Joining.{joins, bot
 use Rattle.controller_walk.{proofs.Same.list_served, specs.{Along.parts_of_list, Serving.Serves, Units.{Stays, Reads, Moves, Course, Closes, Does, verdict, after_read, course_of_list, entry_cursor, moving, pages_spanned, rest_of}}}
 use Rattle.controller_walk.specs.declared.walk.WalkState.{WalkState, TheVariants.{More, End, Fault}}
 use Rattle.entry_codec.specs.declared.{status.{Status.Status, TheConstants.Status.{DATA_TRANSFER_ERROR, DATA_SGL_LENGTH_INVALID}}, submission.SubEntry.SubEntry}
-use Rattle.two_sides.proofs.{Ending.{list_in, lists_end, bytes_there}, Provided.{In, in_found, sent_found}, TiedAll.{Grounds, admins_of}}
+use Rattle.two_sides.proofs.{Ending.{list_in, lists_end, long_lists_end, shorter_lists_end, bytes_there}, Provided.{In, in_found, sent_found}, TiedAll.{Grounds, admins_of}}
 use Rattle.two_sides.proofs.Untouched.{sent_page, owned_once, among_counts, holds_right, holds_left, holds_right as among_right}
 use Rattle.two_sides.specs.InOrder.{IsInOrder, reserved_drafts_are_proper, collected_commands_are_proper}
 use Rattle.queue_pair.proofs.Rings.{bytes_agree}
@@ -68,6 +68,7 @@ opcode_direction Compare far = refl
 opcode_direction WriteZeroes far = refl
 opcode_direction Verify far = refl
 opcode_direction Flush far = refl
+opcode_direction Deallocate far = refl
 opcode_direction (Admin command) far = absurd (true≢false far)
 
 pub entry_direction : (cid : ℕ) (r : Request) (sgl1 : List ℕ) → is_admin r.kind ≡ false → direction_of_entry (io_entry cid r sgl1) ≡ direction_of r.kind
@@ -75,33 +76,34 @@ entry_direction cid r sgl1 far = opcode_direction r.kind far
 
 pub entry_need : (cid : ℕ) (r : Request) (sgl1 : List ℕ) → IsGood r → r.block_size ≡ Bytes512 → moves_data r.kind ≡ true → need_of_entry (io_entry cid r sgl1) ≡ need_of r.kind r.block_size r.blocks
 entry_need cid r sgl1 good size moves =
-    ap (λ (n : ℕ). 512 * n) (entry_blocks cid r sgl1 good moves) ∙ sym (ap₂ (λ (b : Bool) (z : BlockSize). if b then block_bytes z * r.blocks else 0) moves size)
+    ap (λ (n : ℕ). 512 * n) (entry_blocks cid r sgl1 good moves) ∙ sym (ap₂ (λ (b : Bool) (z : BlockSize). if b then block_bytes z * r.blocks else need_of_ranges r.kind r.blocks) moves size)
 
 -- The parts of its pieces
 
-counted_parts : (kind : Kind) → moves_data kind ≡ true → (pieces : List Piece) (pages : List ℕ) → data_count pieces ≤ length pages
+counted_parts : (kind : Kind) → has_list kind ≡ true → (pieces : List Piece) (pages : List ℕ) → data_count pieces ≤ length pages
     → counted_in (direction_of kind) (parts_of pieces pages) ≡ counted_lengths kind pieces
-counted_parts kind moves [] pages few = refl
-counted_parts kind moves (Bucket len ∷ pieces) pages few = go kind moves (counted_parts kind moves pieces pages (grind (arith, common_steps)))
+counted_parts kind list [] pages few = refl
+counted_parts kind list (Bucket len ∷ pieces) pages few = go kind list (counted_parts kind list pieces pages (grind (arith, common_steps)))
   where
-    go : (k : Kind) → moves_data k ≡ true → counted_in (direction_of k) (parts_of pieces pages) ≡ counted_lengths k pieces
+    go : (k : Kind) → has_list k ≡ true → counted_in (direction_of k) (parts_of pieces pages) ≡ counted_lengths k pieces
         → counted_in (direction_of k) (parts_of (Bucket len ∷ pieces) pages) ≡ counted_lengths k (Bucket len ∷ pieces)
-    go Read moves ih = omega (arith, ih, sum_by-cons (counted_length Read) (Bucket len) pieces)
-    go Write moves ih = omega (arith, ih, sum_by-cons (counted_length Write) (Bucket len) pieces)
-    go Compare moves ih = omega (arith, ih, sum_by-cons (counted_length Compare) (Bucket len) pieces)
-    go WriteZeroes moves ih = absurd (true≢false (sym moves))
-    go Verify moves ih = absurd (true≢false (sym moves))
-    go Flush moves ih = absurd (true≢false (sym moves))
-    go (Admin command) moves ih = absurd (true≢false (sym moves))
-counted_parts kind moves (Data offset len ∷ pieces) [] few = absurd (grind (arith, common_steps))
-counted_parts kind moves (Data offset len ∷ pieces) (page ∷ pages) few =
-    omega (arith, counted_parts kind moves pieces pages (grind (arith, common_steps)), sum_by-cons (counted_length kind) (Data offset len) pieces)
+    go Read list ih = omega (arith, ih, sum_by-cons (counted_length Read) (Bucket len) pieces)
+    go Write list ih = omega (arith, ih, sum_by-cons (counted_length Write) (Bucket len) pieces)
+    go Compare list ih = omega (arith, ih, sum_by-cons (counted_length Compare) (Bucket len) pieces)
+    go Deallocate list ih = omega (arith, ih, sum_by-cons (counted_length Deallocate) (Bucket len) pieces)
+    go WriteZeroes list ih = absurd (true≢false (sym list))
+    go Verify list ih = absurd (true≢false (sym list))
+    go Flush list ih = absurd (true≢false (sym list))
+    go (Admin command) list ih = absurd (true≢false (sym list))
+counted_parts kind list (Data offset len ∷ pieces) [] few = absurd (grind (arith, common_steps))
+counted_parts kind list (Data offset len ∷ pieces) (page ∷ pages) few =
+    omega (arith, counted_parts kind list pieces pages (grind (arith, common_steps)), sum_by-cons (counted_length kind) (Data offset len) pieces)
 
 pub parts_count : (r : Request) (pages : List ℕ) → IsGood r → is_admin r.kind ≡ false → length pages ≡ data_count r.pieces → counted_in (direction_of r.kind) (parts_of r.pieces pages) ≡ need_of r.kind r.block_size r.blocks
-parts_count r pages good far has = elim (cases_Bool (moves_data r.kind)) [
-  | inl moves ↦ counted_parts r.kind moves r.pieces pages (omega (arith, has)) ∙ (good_is r good).counted far
-  | inr still ↦ ap (λ (pieces : List Piece). counted_in (direction_of r.kind) (parts_of pieces pages)) (no_pieces r.kind r.block_size r.blocks r.pieces good still far)
-      ∙ sym (ap (λ (b : Bool). if b then block_bytes r.block_size * r.blocks else 0) still)
+parts_count r pages good far has = elim (cases_Bool (has_list r.kind)) [
+  | inl list ↦ counted_parts r.kind list r.pieces pages (omega (arith, has)) ∙ (good_is r good).counted far
+  | inr still ↦ let none : r.pieces ≡ [] = no_pieces r.kind r.block_size r.blocks r.pieces good still far in
+      ap (λ (pieces : List Piece). counted_in (direction_of r.kind) (parts_of pieces pages)) none ∙ ap (counted_lengths r.kind) (sym none) ∙ (good_is r good).counted far
 ]
 
 -- each part that has a place lies in one of the pages
@@ -314,19 +316,19 @@ pool_bytes m at place byte e = go (at place) (page_at m (page_of place)) e
 
 -- What the walk of a job reaches
 
--- a command that moves data has a list
-pub list_of_job : (s : State) (j : Job) (l : JobList s j) → moves_data l.request.kind ≡ true
+-- a command with a list has its own
+pub list_of_job : (s : State) (j : Job) (l : JobList s j) → has_list l.request.kind ≡ true
     → IsListIn l.command.chain_pages l.command.data_pages (memory_of s.memory) j.entry.sgl1 (joined_parts l.request.pieces l.command.data_pages)
-list_of_job s j l moves = record {
+list_of_job s j l has = record {
   first = l.list.first;
-  spelled = ap (λ (e : SubEntry). descriptor_of e.sgl1) l.entry ∙ ap descriptor_of (pointer_moves l.request.kind (spelling l.list.first) moves) ∙ l.list.read;
+  spelled = ap (λ (e : SubEntry). descriptor_of e.sgl1) l.entry ∙ ap descriptor_of (pointer_lists l.request.kind (spelling l.list.first) has) ∙ l.list.read;
   spells = spells_there (only (on_pages l.command.chain_pages) (byte_at s.memory)) (only (on_pages l.command.chain_pages) (memory_of s.memory)) (pool_bytes s.memory (on_pages l.command.chain_pages)) l.list.first
-      (joined_parts l.request.pieces l.command.data_pages) (l.list.spells moves);
+      (joined_parts l.request.pieces l.command.data_pages) (l.list.spells has);
   parts_lie = joined_lie (on_pages l.command.data_pages) (parts_of l.request.pieces l.command.data_pages)
       (parts_lie l.command.data_pages l.request.pieces l.command.data_pages (good_is l.request l.sized.good).crosses (λ p h. h));
 }
 
--- one that moves none has zeros there, which read as a block of no bytes: its walk would reach no page, and find too little data
+-- one without a list has zeros there, which read as a block of no bytes: its walk would reach no page, and find too little data
 zeros_read : descriptor_of (replicate 16 0) ≡ Some (DataBlock 0 0)
 zeros_read = reads_itself (DataBlock 0 0) (omega arith, omega arith)
 
@@ -346,15 +348,15 @@ zeros_course m dir need some =
     ap (λ (o : Option Descriptor). Does Stays (after_read m dir need entry_cursor need (rest_of 4095 m dir need) o)) zeros_read
     ∙ ap (Does Stays) (no_block m need (need - need) (Closes (if nat_eq (need - 0) 0 then End else Fault DATA_SGL_LENGTH_INVALID)) ∙ ap Closes (wants_more need some))
 
-pub still_course : (s : State) (j : Job) (l : JobList s j) → moves_data l.request.kind ≡ false → course_of s j ≡ Does Stays (Closes (Fault DATA_SGL_LENGTH_INVALID))
+pub still_course : (s : State) (j : Job) (l : JobList s j) → has_list l.request.kind ≡ false → course_of s j ≡ Does Stays (Closes (Fault DATA_SGL_LENGTH_INVALID))
 still_course s j l still =
     ap (λ (sgl1 : List ℕ). course_of_list (memory_of s.memory) sgl1 (direction_of_entry j.entry) (need_of_entry j.entry))
     (ap (λ (e : SubEntry). e.sgl1) l.entry ∙ pointer_still l.request.kind (spelling l.list.first) still)
     ∙ zeros_course (memory_of s.memory) (direction_of_entry j.entry) (need_of_entry j.entry) (omega arith)
 
 pub course_in : (s : State) (j : Job) (l : JobList s j) → CourseIn (on_pages l.command.chain_pages) (on_pages l.command.data_pages) (course_of s j)
-course_in s j l = elim (cases_Bool (moves_data l.request.kind)) [
-  | inl moves ↦ let list = list_of_job s j l moves in
+course_in s j l = elim (cases_Bool (has_list l.request.kind)) [
+  | inl has ↦ let list = list_of_job s j l has in
       list_in (on_pages l.command.chain_pages) (on_pages l.command.data_pages) (memory_of s.memory) j.entry.sgl1 list.first (joined_parts l.request.pieces l.command.data_pages) (direction_of_entry j.entry) (need_of_entry j.entry)
       list.spelled list.spells list.parts_lie
   | inr still ↦ subst (CourseIn (on_pages l.command.chain_pages) (on_pages l.command.data_pages)) (sym (still_course s j l still)) (tt, tt)
@@ -373,6 +375,22 @@ low_places m few place h =
     inside (x ∷ m) zero h = omega arith
     inside (x ∷ m) (suc p) h = omega (arith, inside m p h)
 
+-- its list spells its parts in the memory of the walk, and they are there
+spells_all : (s : State) (j : Job) (l : JobList s j) (list : IsListIn l.command.chain_pages l.command.data_pages (memory_of s.memory) j.entry.sgl1 (joined_parts l.request.pieces l.command.data_pages))
+    → Spells (memory_of s.memory) list.first (joined_parts l.request.pieces l.command.data_pages)
+spells_all s j l list =
+    spells_there (only (on_pages l.command.chain_pages) (memory_of s.memory)) (memory_of s.memory) (more_than_only (on_pages l.command.chain_pages) (memory_of s.memory)) list.first
+    (joined_parts l.request.pieces l.command.data_pages) list.spells
+
+all_there : (s : State) → Stood s → (j : Job) (l : JobList s j) → AllByRecursion (IsThere (memory_of s.memory)) (joined_parts l.request.pieces l.command.data_pages)
+all_there s stood j l =
+    joined_there (memory_of s.memory) (parts_of l.request.pieces l.command.data_pages)
+    (parts_there s.memory l.request.pieces l.command.data_pages (good_is l.request l.sized.good).crosses l.sized.fits.pieces
+    (λ p h. (
+      omega (arith, page_below s stood.grounds l.command l.within p (data_of l.command p h), stood.few),
+      page_there s stood.grounds l.command l.within l.phase p (data_of l.command p h),
+    )))
+
 -- it ends well, the parts that are taken have the targets of its parts, and those count what is moved
 pub record CourseWhole (s : State) (j : Job) (parts : List Part) : Type 0 where
   pub ends : verdict (course_of s j) ≡ End
@@ -381,26 +399,21 @@ pub record CourseWhole (s : State) (j : Job) (parts : List Part) : Type 0 where
 
 pub course_whole : (s : State) → Stood s → (j : Job) (l : JobList s j) → moves_data l.request.kind ≡ true → CourseWhole s j (parts_of l.request.pieces l.command.data_pages)
 course_whole s stood j l moves =
-    let list = list_of_job s j l moves in
+    let list = list_of_job s j l (moves_list l.request.kind moves) in
     let r = l.command in
-    let g = good_is l.request l.sized.good in
     let same_direction : direction_of_entry j.entry ≡ direction_of l.request.kind = ap direction_of_entry l.entry ∙ entry_direction r.cid l.request (spelling l.list.first) l.sized.blocks in
     let same_need : need_of_entry j.entry ≡ need_of l.request.kind l.request.block_size l.request.blocks =
     ap need_of_entry l.entry ∙ entry_need r.cid l.request (spelling l.list.first) l.sized.good l.sized.size moves in
     let count : counted_in (direction_of_entry j.entry) (parts_of l.request.pieces r.data_pages) ≡ need_of_entry j.entry =
     ap (λ d. counted_in d (parts_of l.request.pieces r.data_pages)) same_direction ∙ parts_count l.request r.data_pages l.sized.good l.sized.blocks l.sized.pages ∙ sym same_need in
     let both = lists_end (memory_of s.memory) j.entry.sgl1 list.first (joined_parts l.request.pieces r.data_pages) (direction_of_entry j.entry) (need_of_entry j.entry)
-    (low_places s.memory stood.few) list.spelled
-    (spells_there (only (on_pages r.chain_pages) (memory_of s.memory)) (memory_of s.memory) (more_than_only (on_pages r.chain_pages) (memory_of s.memory)) list.first (joined_parts l.request.pieces r.data_pages) list.spells)
-    (joined_there (memory_of s.memory) (parts_of l.request.pieces r.data_pages) (parts_there s.memory l.request.pieces r.data_pages g.crosses l.sized.fits.pieces
-    (λ p h. (omega (arith, page_below s stood.grounds r l.within p (data_of r p h), stood.few), page_there s stood.grounds r l.within l.phase p (data_of r p h)))))
-    (same_count (direction_of_entry j.entry) (parts_of l.request.pieces r.data_pages) ∙ count) in
+    (low_places s.memory stood.few) list.spelled (spells_all s j l list) (all_there s stood j l) (same_count (direction_of_entry j.entry) (parts_of l.request.pieces r.data_pages) ∙ count) in
     record { ends = both.0; takes = both.1 ∙ same_targets (direction_of_entry j.entry) (parts_of l.request.pieces r.data_pages); counts = count }
 
 pub course_ends : (s : State) → Stood s → (j : Job) (l : JobList s j) → moves_data l.request.kind ≡ true → verdict (course_of s j) ≡ End
 course_ends s stood j l moves = (course_whole s stood j l moves).ends
 
--- whether it moves data or none, it ends, and not for want of a byte
+-- whatever its entry wants of its list, if it has one, it ends, and if not well then for want of a byte
 abbrev code_of : WalkState → ℕ
 code_of More = 0
 code_of End = 0
@@ -409,11 +422,27 @@ code_of (Fault status) = status.sc
 too_short_is_no_loss : Fault DATA_SGL_LENGTH_INVALID ≢ Fault DATA_TRANSFER_ERROR
 too_short_is_no_loss same = let e : DATA_SGL_LENGTH_INVALID.sc ≡ DATA_TRANSFER_ERROR.sc = ap code_of same in absurd (omega (arith, e))
 
+listed_over : (s : State) → Stood s → (j : Job) (l : JobList s j) → has_list l.request.kind ≡ true → (verdict (course_of s j) ≡ End) ⊎ (verdict (course_of s j) ≡ Fault DATA_SGL_LENGTH_INVALID)
+listed_over s stood j l has =
+    let list = list_of_job s j l has in
+    let m = memory_of s.memory in
+    let parts = joined_parts l.request.pieces l.command.data_pages in
+    let dir = direction_of_entry j.entry in
+    let need = need_of_entry j.entry in
+    elim (cases_lt (counted_in dir parts) need) [
+      | inl short ↦ inr (shorter_lists_end m j.entry.sgl1 list.first parts dir need (low_places s.memory stood.few) list.spelled (spells_all s j l list) (all_there s stood j l) short)
+      | inr enough ↦ inl (long_lists_end m j.entry.sgl1 list.first parts dir need (low_places s.memory stood.few) list.spelled (spells_all s j l list) (all_there s stood j l) enough).0
+    ]
+
 pub course_over : (s : State) → Stood s → (j : Job) (l : JobList s j) → (verdict (course_of s j) ≢ More) × (verdict (course_of s j) ≢ Fault DATA_TRANSFER_ERROR)
-course_over s stood j l = elim (cases_Bool (moves_data l.request.kind)) [
-  | inl moves ↦ let e = course_ends s stood j l moves in (λ f. cc, λ f. cc)
-  | inr still ↦ let e = ap verdict (still_course s j l still) in (λ f. cc, λ f. too_short_is_no_loss (sym e ∙ f))
+course_over s stood j l = elim (cases_Bool (has_list l.request.kind)) [
+  | inl has ↦ go (listed_over s stood j l has)
+  | inr still ↦ go (inr (ap verdict (still_course s j l still)))
 ]
+  where
+    go : (verdict (course_of s j) ≡ End) ⊎ (verdict (course_of s j) ≡ Fault DATA_SGL_LENGTH_INVALID) → (verdict (course_of s j) ≢ More) × (verdict (course_of s j) ≢ Fault DATA_TRANSFER_ERROR)
+    go (inl e) = (λ f. cc, λ f. cc)
+    go (inr e) = (λ f. cc, λ f. too_short_is_no_loss (sym e ∙ f))
 
 -- Its list stays where its chain pages stay, and its data pages are in
 
@@ -601,11 +630,11 @@ all_low (x ∷ xs) low =
 -- what the draft spells there
 pub draft_spells : (d : DraftContents) (entry : SubEntry) (m : Pages) → IsProperDraft d → d.entry ≡ Some entry
     → ((n : ℕ) → is_among (numbers_of d.data_pages) n ≡ true → n < 65536) → ((n : ℕ) → is_among (numbers_of d.chain_pages) n ≡ true → n < 65536)
-    → AllByRecursion (λ page. page_at m page.0 ≡ Some page.1) d.chain_pages → moves_data d.request.kind ≡ true
+    → AllByRecursion (λ page. page_at m page.0 ≡ Some page.1) d.chain_pages → has_list d.request.kind ≡ true
     → Spells (only (on_pages (numbers_of d.chain_pages)) (byte_at m)) (draft_first d) (draft_parts d)
-draft_spells d entry m proper e low low' there moves =
+draft_spells d entry m proper e low low' there list =
     built_drafts_spell (λ s pages parts has typed most m laid. spells m s pages parts has typed most laid) d entry proper.draft
-    (record { request = proper.request; data_pages = all_low (numbers_of d.data_pages) low; chain_pages = all_low (numbers_of d.chain_pages) low' }) e moves
+    (record { request = proper.request; data_pages = all_low (numbers_of d.data_pages) low; chain_pages = all_low (numbers_of d.chain_pages) low' }) e list
     (only (on_pages (numbers_of d.chain_pages)) (byte_at m)) (holds_pages m (numbers_of d.chain_pages) d.chain_pages (λ p h. h) proper.chain_pages there)
 
 -- What the machine hands out is proper: the draft of a command that was reserved, and a command that was collected.

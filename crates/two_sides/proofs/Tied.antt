@@ -245,7 +245,7 @@ tie_host_event s e reply ok c g h =
       notes = λ q cid st what e r k told heard w none'.
           let u = a.heard q e s in
           tie_host s.entries u.host.queues u.controller.queues s.controller.jobs k (λ queue. record queue { state = if is_success st then Deleting true else Live })
-          (λ x d ex ed p. noted x d (asked_as_heard s q cid st e r k g.holds heard w x ex) p (is_success st)) (λ x ex some o. grind arith) (tie_heard q e s none' h);
+          (λ x d ex ed p. noted x d (asked_as_heard s q cid st e r k g.holds heard w x ex) p (is_success st)) (λ x ex some o. stays (is_success st)) (tie_heard q e s none' h);
       frees = λ q cid st what e r k queue told heard w at alone good none'.
           let u = a.heard q e s in
           let is : (x : HostQueue) → slice_get u.host.queues k ≡ Some x → in_service x.state ≡ false = λ x ex. let same : queue ≡ x = cc (at, ex) in ap (λ (z : HostQueue). in_service z.state) (sym same) ∙ alone_is_out queue.state alone in
@@ -323,6 +323,10 @@ tie_host_event s e reply ok c g h =
       };
     }) ok.0
   where
+    stays : (b : Bool) → in_service (if b then Deleting true else Live) ≡ true
+    stays true = refl
+    stays false = refl
+
     noted : (x : HostQueue) (d : ServedQueue) → x.state ≡ Deleting false → PairOk s.entries x d → (b : Bool) → PairOk s.entries (record x { state = if b then Deleting true else Live }) d
     noted x d is p true = pair_moves s.entries x (record x { state = Deleting true }) d (λ o. p.sub (ap has_sq is)) (λ o. p.comp (ap has_cq is)) (λ o. absurd (true≢false o)) (λ o. absurd (true≢false (sym o))) p
     noted x d is p false = pair_moves s.entries x (record x { state = Live }) d (λ o. p.sub (ap has_sq is)) (λ o. p.comp (ap has_cq is)) (λ o. absurd (true≢false o)) (λ o. absurd (true≢false (sym o))) p

@@ -1,9 +1,10 @@
 -- What a walk of a list in the pool reads, moves and ends with.
 use Rattle.std.specs.{List.AllByRecursion, Prelude.{◌≡◌, ◌<◌, ◌≤◌, ◌^◌, ℕ, true, Some, List, is_some, take}}
+use Rattle.entry_codec.specs.declared.status.TheConstants.Status.{DATA_SGL_LENGTH_INVALID}
 use Rattle.page_memory.specs.{Memory.Memory, Pages.{Pages, byte_at, AreWhole}}
 use Rattle.sgl_descriptor.specs.{Spelling.descriptor_of, Targets.{counted_in, targets}, declared.{Descriptor.Descriptor, Direction.Direction, Part.Part}}
 use Rattle.sgl_chain.specs.Spells.{Spells}
-use Rattle.controller_walk.specs.{Along.parts_of_list, Units.{course_of_list, verdict_of_list}, declared.walk.WalkState.TheVariants.End}
+use Rattle.controller_walk.specs.{Along.parts_of_list, Units.{course_of_list, verdict_of_list}, declared.walk.WalkState.TheVariants.{End, Fault}}
 use Rattle.machine_model.specs.{Memory.memory_of, Reached.{IsListIn, KeepsToPages, AreApart, IsThere}}
 
 abbrev pub lists_keep_to_their_pages : Type 0
@@ -27,6 +28,13 @@ long_lists_end_well =
     → ((place : ℕ) → is_some (m place) ≡ true → place < 2 ^ 64) → descriptor_of sgl1 ≡ Some first → Spells m first parts → AllByRecursion (IsThere m) parts → need ≤ counted_in dir parts
     → (verdict_of_list m sgl1 dir need ≡ End)
     × (targets dir (parts_of_list m sgl1 dir need) ≡ take need (targets dir parts))
+
+-- They may count less: then the list ends for want of a byte.
+abbrev pub short_lists_end : Type 0
+short_lists_end =
+    (m : Memory) (sgl1 : List ℕ) (first : Descriptor) (parts : List Part) (dir : Direction) (need : ℕ)
+    → ((place : ℕ) → is_some (m place) ≡ true → place < 2 ^ 64) → descriptor_of sgl1 ≡ Some first → Spells m first parts → AllByRecursion (IsThere m) parts → counted_in dir parts < need
+    → verdict_of_list m sgl1 dir need ≡ Fault DATA_SGL_LENGTH_INVALID
 
 -- where each page that is in is whole, that is the memory of the pool
 abbrev pub walks_read_the_pool : Type 0

@@ -6,7 +6,7 @@ use Rattle.machine_model.specs.{After.{after, course_of}, Events.{Event, Reply},
 use Rattle.machine_model.specs.{Refusals.{job_at, is_submitted, host_queue, is_live}, Standing.JobStands}
 use Rattle.machine_model.specs.{State.{State, Controller, Record, record_at, outstanding_on, HostQueue, Job}, Step.{Step, Permits, IsController, host_part, times}}
 use Rattle.machine_model.specs.{Touch.{stays_allowed, stays_own}, Trusted.{TrustedRun, forges_by}, Work.Work, declared.words.Work.TheVariants.{Io, Management}}
-use Rattle.io_commands.specs.{Asked.Request, Requests.{joined_parts, moves_data}, Drafts.pointer_of}
+use Rattle.io_commands.specs.{Asked.Request, Requests.{has_list, joined_parts}, Drafts.pointer_of}
 use Rattle.sgl_descriptor.specs.{Spelling.spelling, declared.Descriptor.Descriptor}
 use Rattle.entry_codec.specs.declared.submission.SubEntry.{SubEntry}
 use Rattle.page_memory.specs.Pages.{page_at, byte_at}
@@ -25,7 +25,7 @@ rings_are_never_full =
     (image : List ℕ) (made : List Made) (end : State) → TrustedRun image made end → All (λ m. IsTrue (not (is_full m.reply))) made
 
 -- A submitted record's chain spells its parts, neighbours that join as one, from some descriptor, which is that of its entry wherever the entry still stands;
--- where it moves no data its entry has zeros there.
+-- where it has no list its entry has zeros there.
 -- A record doesn't keep its entry: after the completion nobody reads the chain.
 abbrev pub entries_of : State → ℕ → ℕ → List SubEntry
 entries_of s q cid =
@@ -34,7 +34,7 @@ entries_of s q cid =
 
 pub record HasChain (s : State) (r : Record) (request : Request) : Type 0 where
   pub first : Descriptor
-  pub spells : moves_data request.kind ≡ true → Spells (byte_at s.memory) first (joined_parts request.pieces r.data_pages)
+  pub spells : has_list request.kind ≡ true → Spells (byte_at s.memory) first (joined_parts request.pieces r.data_pages)
   pub named : All (λ e. e.sgl1 ≡ pointer_of request.kind (spelling first)) (entries_of s r.q r.cid)
 
 abbrev pub HasChainIfIo : State → Record → Work → Type 0

@@ -43,7 +43,7 @@ pub fn law_of_agreed_jobs()
     ensures keep { agreed_jobs_keep_their_lists }
 {}
 
-/// Where both sides agree, the chain of each submitted command that moves data spells its parts, from the descriptor of its entry, and
+/// Where both sides agree, the chain of each submitted command that has a list spells its parts, from the descriptor of its entry, and
 /// where nothing was forged no step changes a byte of a command's chain pages.
 #[tactic(auto, using(crate::proofs::Agreed::agreed_chains, crate::proofs::Agreed::agreed_chain_pages))]
 pub fn law_of_agreed_chains()

@@ -4,7 +4,7 @@ ghost use Rattle.two_sides.specs.Provided.{each_step_provides, every_run_provide
 ghost use Rattle.two_sides.specs.Histories.{unforged_runs_end_trusted, trusted_ends_are_unforged, resets_restore_trust};
 ghost use Rattle.two_sides.specs.InOrder.{openings_are_in_order, steps_keep_order, reserved_drafts_are_proper, collected_commands_are_proper, every_event_is_answered};
 ghost use Rattle.two_sides.specs.MachineLaws.{trusted_worlds_are_linked, live_queues_are_there, jobs_stand, jobs_keep_their_lists, admin_commands_stand_once, trusted_steps_stay_allowed, hosts_need_no_controller, chains_stand, chains_stay, rings_are_never_full};
-ghost use Rattle.two_sides.specs.Lists.{lists_keep_to_their_pages, lists_end_well, long_lists_end_well, walks_read_the_pool, walks_go_as_in_the_pool};
+ghost use Rattle.two_sides.specs.Lists.{lists_keep_to_their_pages, lists_end_well, long_lists_end_well, short_lists_end, walks_read_the_pool, walks_go_as_in_the_pool};
 ghost use Rattle.two_sides.specs.Recovering.{openings_can_recover, resets_recover, every_run_recovers, resets_leave_io_commands};
 ghost use Rattle.two_sides.specs.Slots.{entries_lie_in_pages, completions_lie_in_pages, entries_stand_in_memory, completions_stand_in_memory, entries_are_written, completions_are_written};
 
@@ -75,6 +75,11 @@ pub fn law_of_longer_lists()
     ensures { long_lists_end_well }
 {}
 
+/// A list may be shorter than its data: it ends with Data SGL Length Invalid (0:0F), where its parts are there.
+pub fn law_of_shorter_lists()
+    ensures { short_lists_end }
+{}
+
 /// Where nothing was forged, each queue that the controller has, and each that has a job, stands at the host with its halves.
 pub fn law_of_links()
     ensures { trusted_worlds_are_linked }
@@ -127,7 +132,7 @@ pub fn law_of_answers()
     ensures { every_event_is_answered }
 {}
 
-/// Where nothing was forged, the chain of each submitted command that moves data spells its parts, from the descriptor of its entry,
+/// Where nothing was forged, the chain of each submitted command that has a list spells its parts, from the descriptor of its entry,
 /// and no step that leaves a command submitted changes a byte of its chain pages.
 pub fn law_of_chains()
     ensures stand { chains_stand }

@@ -5,7 +5,7 @@ use Rattle.controller_walk.specs.Walks.{answer, course, course_in, direction_of,
 use Rattle.controller_walk.specs.declared.{cause.WalkFault.WalkFault, progress.State.{State, TheVariants.{First, Next, Data, Over}}, walk.{Walk.Walk, WalkState.WalkState}}
 use Rattle.controller_walk.specs.declared.walk.WalkState.TheVariants.{More, End, Fault}
 use Rattle.entry_codec.specs.declared.submission.SubEntry.{SubEntry}
-use Rattle.io_commands.specs.{Jobs.{direction_by, direction_of_entry, kind_of_opcode}, declared.request.Kind.{Kind, TheVariants.{Admin, Compare, Flush, Read, Verify, Write, WriteZeroes}}}
+use Rattle.io_commands.specs.{Jobs.{direction_by, direction_of_entry, kind_of_opcode}, declared.request.Kind.{Kind, TheVariants.{Admin, Compare, Deallocate, Flush, Read, Verify, Write, WriteZeroes}}}
 use Rattle.io_commands.specs.declared.admin.AdminCommand.{AdminCommand}
 use Rattle.page_memory.specs.Memory.{Memory, bytes_at}
 use Rattle.sgl_descriptor.specs.declared.Direction.{Direction, TheVariants.Source}
@@ -79,6 +79,7 @@ fetching e Compare is other = ap direction_by is
 fetching e WriteZeroes is other = ap direction_by is
 fetching e Verify is other = ap direction_by is
 fetching e Flush is other = ap direction_by is
+fetching e Deallocate is other = ap direction_by is
 fetching e (Admin command) is other = absurd (no_admin e.opcode command is)
 
 -- How a command ends hangs on its bytes only where it is a Compare.
@@ -90,6 +91,7 @@ judged stored e Write bytes other None is same = rw is refl
 judged stored e WriteZeroes bytes other None is same = rw is refl
 judged stored e Verify bytes other None is same = rw is refl
 judged stored e Flush bytes other None is same = rw is refl
+judged stored e Deallocate bytes other None is same = rw is refl
 judged stored e (Admin command) bytes other None is same = absurd (no_admin e.opcode command is)
 judged stored e Compare bytes other None is same = ap (λ (b : List ℕ). ends_with stored e b None) (same no_read)
   where

@@ -3,9 +3,9 @@
 ghost use Rattle.std.specs.Prelude.{◌≡◌, ◌+◌, ◌*◌, ◌<◌, ◌≤◌, [], length, vec_len, vec_capacity, Some, None, IfOk, IfErr, IfNone, IfSome, IsTrue, OnOk, OnErr, slice_get};
 ghost use Rattle.std.specs.Bool.{OnTrue};
 ghost use Rattle.std.specs.List.{Contains};
-ghost use Rattle.std.specs.Option.{option_map};
+ghost use Rattle.std.specs.Option.{option_copied, option_map};
 ghost use Rattle.machine_model.specs.Claims.{claims_of, counts_of, IsSound};
-ghost use Rattle.machine_model.specs.Script.{table};
+ghost use Rattle.machine_model.specs.Script.{finished_at, table};
 ghost use Rattle.machine_model.specs.State.{outstanding_on};
 ghost use Rattle.page_memory.specs.Memory.{bytes_at};
 ghost use Rattle.page_memory.specs.Pages.{byte_at};
@@ -24,7 +24,9 @@ ghost use Rattle.world_bench.specs.TouchingAll.{TouchAll};
 
 use crate::bench_tables::BenchTables;
 use block_image::Image;
+use host_bench::values::finished_in;
 use host_core::{Config, Host};
+use io_commands::Finished;
 use machine_model::words::{OpenRefusal, Peer};
 use page_ledger::{Counts, Owner};
 use page_memory::{PageNo, Unreadable};
@@ -150,6 +152,13 @@ impl<A: Allocator + Copy> Bench<A> {
         ensures looks { LooksAtMost 2 self.old.touches self.new.touches }
     {
         self.kept.world.read(addr, into)
+    }
+
+    /// A collected command, to look at and to gather its bytes from where they lie; none where no such command is collected.
+    pub fn finished(&self, q: u16, cid: u16) -> Option<&Finished<A>>
+        ensures { option_copied result ≡ finished_at q cid self.now.table.finished }
+    {
+        finished_in(&self.kept.values, q, cid)
     }
 
     /// Where both sides stand in the rings of a queue, as [`World::rings`] tells it.

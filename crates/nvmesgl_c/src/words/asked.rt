@@ -24,7 +24,7 @@ const LIMITED_RETRY: u32 = 2;
 pub struct CRequest {
     /// How many bytes the struct has, 48.
     pub size: u32,
-    /// 0: a Read. 1: a Write. 2: a Compare. 3: a Write Zeroes. 4: a Verify. 5: a Flush.
+    /// 0: a Read. 1: a Write. 2: a Compare. 3: a Write Zeroes. 4: a Verify. 5: a Flush. 6: a Deallocate.
     pub kind: u32,
     /// The namespace; 0: namespace 1.
     pub nsid: u32,
@@ -32,7 +32,7 @@ pub struct CRequest {
     pub flags: u32,
     /// The first block.
     pub slba: u64,
-    /// How many blocks.
+    /// How many blocks, or ranges.
     pub blocks: u32,
     /// How many bytes a block has; 0: 512.
     pub block_bytes: u32,

@@ -94,7 +94,7 @@ pub fn pieces_of(alloc: Global, pieces: &[CPiece]) -> Result<Pieces, NoPieces>
     }
 }
 
-/// The kind of a number: 0 a Read, 1 a Write, 2 a Compare, 3 a Write Zeroes, 4 a Verify, 5 a Flush.
+/// The kind of a number: 0 a Read, 1 a Write, 2 a Compare, 3 a Write Zeroes, 4 a Verify, 5 a Flush, 6 a Deallocate.
 pub fn kind_of(number: u32) -> Option<Kind>
     ensures { result ≡ requests.kind_of number }
 {
@@ -105,6 +105,7 @@ pub fn kind_of(number: u32) -> Option<Kind>
         3 => Some(Kind::WriteZeroes),
         4 => Some(Kind::Verify),
         5 => Some(Kind::Flush),
+        6 => Some(Kind::Deallocate),
         _ => None,
     }
 }

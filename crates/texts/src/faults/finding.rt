@@ -5,7 +5,6 @@ ghost use Rattle.texts.specs.Found.{IsErrorIn, IsIn};
 
 use crate::faults::forms::{Grammar, Slot, has_pieces, slots_of, slots_of_job};
 use crate::faults::words::{Place, word_from};
-use io_commands::Kind;
 use script_cli::{
     BLOCK_SIZE, FUA, LR, LineError, LineFault, NSID, VECTOR, Verb, Words, begins_comment,
     begins_option, piece, words_of,
@@ -278,8 +277,8 @@ fn step_after(alloc: Global, line: &[u8], at: usize, verb: Verb) -> Result<(), F
     Ok(end_after(line, at, wanted)?)
 }
 
-/// Whether the third word that follows a place is `read`.
-fn is_read(line: &[u8], at: usize) -> bool
+/// Whether the third word that follows a place is a kind of command whose job has bytes.
+fn has_bytes(line: &[u8], at: usize) -> bool
     requires { at ≤ length line.now }
 {
     let Ok(mut words) = words_of(&line[at..]) else {
@@ -288,7 +287,10 @@ fn is_read(line: &[u8], at: usize) -> bool
     // the submitter and the queue
     words.take_first();
     words.take_first();
-    words.kind() == Ok(Kind::Read)
+    match words.kind() {
+        Ok(kind) => kind.has_list() && !kind.brings_data(),
+        Err(_) => false,
+    }
 }
 
 /// Looks at what follows `job`.
@@ -298,7 +300,7 @@ fn job_after(alloc: Global, line: &[u8], at: usize, submitters: u16) -> Result<(
 {
     let slots = slots_of_job(submitters);
     let mut next = words_after(alloc, line, at, &slots)?;
-    if !is_read(line, at) {
+    if has_bytes(line, at) {
         next = word_after(alloc, line, next, Slot::Bytes)?;
     }
     request_after(alloc, line, next, Wanted::NothingOfJob)

@@ -21,13 +21,15 @@ A script of `nvmesgl threads` has one job on each line:
   job S Q read SLBA BLOCKS PIECE..
   job S Q write SLBA BLOCKS HEX PIECE..
   job S Q compare SLBA BLOCKS HEX PIECE..
+  job S Q deallocate 0 RANGES HEX PIECE..
+  job S Q KIND SLBA BLOCKS               a KIND without a piece
 
   Q       a queue; 0 is the admin queue
   CID     a command's identifier on its queue, as `reserve` answers it
   S       a submitter, from 0, below --submitters
-  KIND    read, write or compare; or, without a piece, write_zeroes, verify or flush
+  KIND    read, write, compare or deallocate; or, without a piece, write_zeroes, verify or flush
   SLBA    the first block
-  BLOCKS  how many blocks
+  BLOCKS  how many blocks; of a deallocate, how many ranges, whose 16 bytes each are its data
   PIECE   OFFSET+LEN, bytes of a page of its own, or xLEN, bytes that are left out
   HEX     bytes, two hexadecimal digits each; those of a command are followed by zeros
   SLOT    a slot of a completion queue

@@ -8,10 +8,11 @@ use script_cli::{LineFault, VERBS, Verb, piece};
 use std::alloc::{AllocError, Global};
 
 /// The kinds of commands.
-const KINDS: [&str; 6] = [
+const KINDS: [&str; 7] = [
     "read",
     "write",
     "compare",
+    "deallocate",
     "write_zeroes",
     "verify",
     "flush",
@@ -133,7 +134,7 @@ fn put_bad_word(
         Slot::Kind => {
             let shown = Shown(word);
             write!(out, "'{shown}' is no kind of command: ")?;
-            let kinds = "it is read, write, compare, write_zeroes, verify or flush.";
+            let kinds = "it is read, write, compare, deallocate, write_zeroes, verify or flush.";
             put_meant(out, alloc, word, &KINDS, kinds)
         }
         _ => put_bad_number(out, word, slot),

@@ -34,6 +34,7 @@ pub fn opcode_name(q: u16, opcode: u8) -> &'static str
         io_opcode::WRITE_ZEROES => "Write Zeroes",
         io_opcode::VERIFY => "Verify",
         io_opcode::FLUSH => "Flush",
+        io_opcode::DATASET_MANAGEMENT => "Dataset Management",
         _ => "no command of this profile",
     }
 }

@@ -4,7 +4,7 @@ use Rattle.io_commands.proofs.layout.chain_of.Goals as goal
 pub build-requires-clause-some : goal.build-requires-clause-some
 build-requires-clause-some g c =
     rw (c.as_slice.ensures.value, c.in_ok-parts.ensures)
-    (some_parts c.args.request.now (numbers_of c.split_at.result.0.now) c.requires.good c.requires.moves
+    (some_parts c.args.request.now (numbers_of c.split_at.result.0.now) c.requires.good c.requires.list
     (front_pages c.args.request.now c.args.pages.now c.split_at.result.0.now _ c.requires.pages (rw c.data_pages.ensures at c.split_at.ensures.front)))
 
 pub build-requires-clause-pages : goal.build-requires-clause-pages
