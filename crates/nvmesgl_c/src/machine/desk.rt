@@ -1,7 +1,8 @@
 //! A bench that ends where it is dropped.
 
-ghost use Rattle.std.specs.Prelude.{◌≡◌, IfOk, IfErr, IfNone, IsTrue, None};
-ghost use Rattle.machine_model.specs.Script.{table};
+ghost use Rattle.std.specs.Prelude.{◌≡◌, IfOk, IfErr, IfNone, IfSome, IsTrue, None, is_some};
+ghost use Rattle.machine_model.specs.Script.{finished_at, table};
+ghost use Rattle.nvmesgl_c.specs.Gathering.{IsGathered};
 ghost use Rattle.nvmesgl_c.specs.MachineLooks as looks;
 ghost use Rattle.nvmesgl_c.specs.MachineLooks.{FindsOwner};
 ghost use Rattle.step_core.specs.Bench.{Does};
@@ -10,6 +11,7 @@ ghost use Rattle.host_core.specs.Opening.{refusal_of_config, RefusesOpening};
 ghost use Rattle.step_core.specs.Opening.{opening_of};
 
 use crate::machine::looks::CCounts;
+use crate::words::gather_into;
 use std::alloc::Global;
 use std::marker::Model;
 use step_core::{Config, ControllerStep, Image, OpenRefused, Owner, PageNo, Reply, Step};
@@ -76,6 +78,21 @@ impl Desk {
         ensures same { self.new ≡ self.old }
     {
         self.bench.next_step()
+    }
+
+    /// Whether a command of this identifier is collected and not released.
+    pub fn has_collected(&self, q: u16, cid: u16) -> bool
+        ensures { result ≡ is_some (finished_at q cid self.now.finished) }
+    {
+        self.bench.finished(q, cid).is_some()
+    }
+
+    /// Gathers what a collected command brought to the front of a buffer, as [`gather_into`] does.
+    pub fn gather_into(&self, q: u16, cid: u16, buffer: &mut [u8]) -> Option<usize>
+        ensures laid { IfSome result (λ count. IsGathered (finished_at q cid self.now.finished) count buffer.old buffer.new) }
+        ensures kept { IfNone result (buffer.new ≡ buffer.old) }
+    {
+        gather_into(self.bench.finished(q, cid), buffer)
     }
 
     /// Does one step.
