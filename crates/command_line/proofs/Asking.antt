@@ -1,7 +1,7 @@
 -- What words ask for, by what a parse finds of them.
 use Rattle.std.proofs.Common.{◌≡◌, ◌∙◌, ◌||◌, ap, ap₂, Bool, true, false, refl, ◌&&◌, ◌<◌, ◌^◌, ℕ, List, [], ◌∷◌, Option, Some, None, sym, ◌⊎◌, subst, inl, inr}
 use Rattle.std.{proofs.lemmas.{Bool.{ltb-true, lt-ltb}}, specs.{Box.box_value, Char.digit_value, List.{AllByRecursion, list_all}}}
-use Rattle.std.specs.{Prelude.{map, Result, Ok, Err, nat_lt, option_and_then, if◌then◌else◌, IfErr, IfOk, IsErrAnd, IsOkAnd, option_map}}
+use Rattle.std.specs.{Prelude.{Vec, map, Result, Ok, Err, nat_lt, option_and_then, if◌then◌else◌, IfErr, IfOk, IsErrAnd, IsOkAnd, option_map}}
 use Rattle.std.specs.Str.Parse.{AllDigits, IsNumeral, ParsesUnsigned, digits_value, without_leading_plus}
 use Rattle.clap.{proofs.{OnLiterals.clap_on_literals, WalkLemmas.both}, specs.ValueTests.is_numeral}
 use Rattle.clap.specs.Words.{AddsArg, AddsInTurn, AddsSubcommand, App, Rule, app_of, rule_of, with_rule, with_subcommand, ReadsOne, Text, HasKind, HasMatchesOf, IsAmong, Kinds, Row, fault_of, found_of, is_simple, is_simple_and_free, kind_of, rows_of, subcommand_name_of, subcommand_of, subcommand_rows_of}
@@ -41,12 +41,34 @@ pub all_local : (args : List Arg) (old new : Command) → AddsInTurn AddsArg old
 all_local [] old new adds local = ap (λ (c : Command). (out-Command c).has_globals) (sym adds)
 all_local (arg ∷ args) old new adds local = all_local args adds.0 new adds.2 local.1 ∙ added_local old arg adds.0 _ adds.1 local.0 refl
 
--- what adding a command made, where that command was made, by what a parse reads of both
-pub added_command : {E : Type 0} (made : Result Command E) (old new : Command) (x y : App) → IfOk made (λ command. app_of command ≡ y)
-    → IfOk made (λ command. (out-Command command).has_globals ≡ false) → IsOkAnd made (λ command. AddsSubcommand old command new) → app_of old ≡ x
+-- and so where the list was made, by what it has
+pub made_all : {E A : Type 0} (made : Result (Vec Arg A) E) (old new : Command) (rules : List Rule) → IsOkAnd made (λ args. AddsInTurn AddsArg old args.items new)
+    → IfOk made (λ args. AllByRecursion (λ arg. arg.global ≡ false) args.items) → IfOk made (λ args. map rule_of args.items ≡ rules)
+    → app_of new ≡ with_rules (app_of old) rules
+made_all (Ok args) old new rules adds local is = added_all args.items old new rules adds local is
+made_all (Err e) old new rules adds local is = absurd adds
+
+pub made_local : {E A : Type 0} (made : Result (Vec Arg A) E) (old new : Command) → IsOkAnd made (λ args. AddsInTurn AddsArg old args.items new)
+    → IfOk made (λ args. AllByRecursion (λ arg. arg.global ≡ false) args.items) → (out-Command new).has_globals ≡ (out-Command old).has_globals
+made_local (Ok args) old new adds local = all_local args.items old new adds local
+made_local (Err e) old new adds local = absurd adds
+
+-- what adding a command made, where both were made, by what a parse reads of them
+pub added_command : {E F : Type 0} (whole : Result Command E) (made : Result Command F) (new : Command) (x y : App)
+    → IfOk made (λ command. app_of command ≡ y) → IfOk made (λ command. (out-Command command).has_globals ≡ false)
+    → IsOkAnd whole (λ old. IsOkAnd made (λ command. AddsSubcommand old command new)) → IfOk whole (λ old. app_of old ≡ x)
     → app_of new ≡ with_subcommand x y.top
-added_command (Ok command) old new x y shape local adds is = adds.shape local ∙ ap₂ with_subcommand is (ap (λ (a : App). a.top) shape)
-added_command (Err e) old new x y shape local adds is = absurd adds
+added_command (Ok old) (Ok command) new x y shape local adds is = adds.shape local ∙ ap₂ with_subcommand is (ap (λ (a : App). a.top) shape)
+added_command (Ok old) (Err e) new x y shape local adds is = absurd adds
+added_command (Err e) made new x y shape local adds is = absurd adds
+
+-- and so of what adding it answers
+pub added_or_not : {E F G : Type 0} (whole : Result Command E) (made : Result Command F) (result : Result Command G) (x y : App)
+    → IfOk made (λ command. app_of command ≡ y) → IfOk made (λ command. (out-Command command).has_globals ≡ false)
+    → IfOk result (λ new. IsOkAnd whole (λ old. IsOkAnd made (λ command. AddsSubcommand old command new))) → IfOk whole (λ old. app_of old ≡ x)
+    → IfOk result (λ new. app_of new ≡ with_subcommand x y.top)
+added_or_not whole made (Ok new) x y shape local adds is = added_command whole made new x y shape local adds is
+added_or_not whole made (Err e) x y shape local adds is = tt
 
 -- The number that a text is read as.
 

@@ -287,6 +287,16 @@ check_by rows =
 abbrev pub load_by : List Row → Option Asked
 load_by rows = option_map (λ said. load (given_in rows) said.0 said.1) (load_in rows)
 
+-- what the commands ask for that show something, or answer line by line
+abbrev pub shown_of_name : Text → List Row → Option Asked
+shown_of_name name rows =
+    if bytes_eq name (codes "shell") then Some (shell (given_in rows) (has_trace rows))
+    else if bytes_eq name (codes "draw") then Some (draw (given_in rows))
+    else if bytes_eq name (codes "explain") then Some (explain (script_in rows) (has_json rows))
+    else if bytes_eq name (codes "show") then Some (show (all_under (codes "words") rows) (has_json rows))
+    else if bytes_eq name (codes "grammar") then Some grammar
+    else None
+
 -- what a named command with these rows asks for
 abbrev pub asked_of_name : Text → List Row → Option Asked
 asked_of_name name rows =
@@ -295,12 +305,7 @@ asked_of_name name rows =
     else if bytes_eq name (codes "load") then load_by rows
     else if bytes_eq name (codes "check") then check_by rows
     else if bytes_eq name (codes "test") then Some (test (tested_in rows))
-    else if bytes_eq name (codes "shell") then Some (shell (given_in rows) (has_trace rows))
-    else if bytes_eq name (codes "draw") then Some (draw (given_in rows))
-    else if bytes_eq name (codes "explain") then Some (explain (script_in rows) (has_json rows))
-    else if bytes_eq name (codes "show") then Some (show (all_under (codes "words") rows) (has_json rows))
-    else if bytes_eq name (codes "grammar") then Some grammar
-    else None
+    else shown_of_name name rows
 
 abbrev pub asked_by : Option (Text × List Row) → Option Asked
 asked_by None = None

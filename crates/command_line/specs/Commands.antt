@@ -26,17 +26,24 @@ word_rule name = record (new_rule name) { value_names = 1 }
 abbrev pub words_rule : Text → Rule
 words_rule name = record (word_rule name) { action = Some Append; required = true }
 
--- a command with the numbers that a world is opened with
+-- a command with one rule after the other
+abbrev pub with_rules : App → List Rule → App
+with_rules command [] = command
+with_rules command (rule ∷ rules) = with_rules (with_rule command rule) rules
+
+-- the numbers that a world is opened with, in the order of the help text
+abbrev pub size_rules : List Rule
+size_rules =
+    number_rule (codes "pages") (codes "16")
+    ∷ number_rule (codes "queues") (codes "1")
+    ∷ number_rule (codes "entries") (codes "4")
+    ∷ number_rule (codes "segment") (codes "256")
+    ∷ number_rule (codes "blocks") (codes "64")
+    ∷ []
+
+-- a command with these
 abbrev pub with_sizes : App → App
-with_sizes command = with_rule
-    (with_rule
-    (with_rule
-    (with_rule
-    (with_rule command (number_rule (codes "pages") (codes "16")))
-    (number_rule (codes "queues") (codes "1")))
-    (number_rule (codes "entries") (codes "4")))
-    (number_rule (codes "segment") (codes "256")))
-    (number_rule (codes "blocks") (codes "64"))
+with_sizes command = with_rules command size_rules
 
 -- a command with these, an image, and the file of its lines
 abbrev pub with_options : App → App
@@ -62,23 +69,20 @@ optional_number_rule name = record (option_rule name) { parser = Some (Signed (p
 abbrev pub text_rule : Text → Text → Rule
 text_rule name usual = record (option_rule name) { defaults = usual ∷ [] }
 
--- how jobs are run
+-- how jobs are run, in the order of the help text
+abbrev pub threading_rules : List Rule
+threading_rules =
+    number_rule (codes "submitters") (codes "2")
+    ∷ number_rule (codes "depth") (codes "1")
+    ∷ optional_number_rule (codes "log-limit")
+    ∷ text_rule (codes "serve") (codes "ringer")
+    ∷ []
+
 abbrev pub with_threading : App → App
-with_threading command = with_rule
-    (with_rule
-    (with_rule
-    (with_rule command (number_rule (codes "submitters") (codes "2")))
-    (number_rule (codes "depth") (codes "1")))
-    (optional_number_rule (codes "log-limit")))
-    (text_rule (codes "serve") (codes "ringer"))
+with_threading command = with_rules command threading_rules
 
 abbrev pub threads : App
 threads = with_options (with_threading (with_telling (new_app (codes "threads"))))
-
--- a command with one rule after the other
-abbrev pub with_rules : App → List Rule → App
-with_rules command [] = command
-with_rules command (rule ∷ rules) = with_rules (with_rule command rule) rules
 
 -- what is loaded, in the order of the help text
 abbrev pub amount_rules : List Rule

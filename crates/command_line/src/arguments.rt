@@ -2,7 +2,7 @@
 
 ghost use Rattle.std.specs.Prelude.{◌≡◌, ◌≤◌, ◌⊎◌, Some, None, IfOk, IfErr, IfSome, IsNone, map, codes, false, true, length};
 ghost use Rattle.clap.specs.Words.{found_of, kind_of, rows_of, subcommand_rows_of};
-ghost use Rattle.command_line.specs.Asked.{asked, asked_by, asked_of, asked_of_name, check_by, given_in, given_of, FitsLine, all_under, amount_under, are_submitters, has_flag, has_jobs, has_trace, if_submitters, path_of, script_in, steps_by, submitters_in, tested_in, tested_of, threads};
+ghost use Rattle.command_line.specs.Asked.{asked, asked_by, asked_of, asked_of_name, check_by, given_in, given_of, FitsLine, all_under, amount_under, are_submitters, has_flag, has_jobs, has_trace, if_submitters, path_of, script_in, shown_of_name, steps_by, submitters_in, tested_in, tested_of, threads};
 ghost use Rattle.clap.specs.declared.error.kind.ErrorKind.TheVariants.{OutOfMemory};
 
 use crate::commands::{
@@ -245,6 +245,34 @@ fn no_command(alloc: Global) -> Result<Error, AllocError> {
     fault(alloc, ErrorKind::MissingSubcommand, NO_COMMAND)
 }
 
+/// What a command asks for that shows something, or answers line by line.
+fn shown_line<'a>(
+    alloc: Global,
+    name: &str,
+    given: &ArgMatches<'a>,
+) -> Result<CommandLine<'a>, Error>
+    ensures asked { IfOk result (λ line. shown_of_name name.now (rows_of (found_of given.now)) ≡ Some (asked_of line)) }
+    ensures fits { IfOk result FitsLine }
+    ensures refused { IfErr result (λ e. (kind_of e ≡ OutOfMemory) ⊎ (shown_of_name name.now (rows_of (found_of given.now)) ≡ None)) }
+{
+    if name == "shell" {
+        return Ok(CommandLine::Shell(Options::of(given), flag(given, "trace")));
+    }
+    if name == "draw" {
+        return Ok(CommandLine::Draw(Options::of(given)));
+    }
+    if name == "explain" {
+        return Ok(CommandLine::Explain(script(given), flag(given, "json")));
+    }
+    if name == "show" {
+        return show_line(alloc, given);
+    }
+    if name == "grammar" {
+        return Ok(CommandLine::Grammar);
+    }
+    Err(no_command(alloc)?)
+}
+
 /// What a command with these words asks for.
 fn line_of<'a>(alloc: Global, name: &str, given: &ArgMatches<'a>) -> Result<CommandLine<'a>, Error>
     ensures asked { IfOk result (λ line. asked_of_name name.now (rows_of (found_of given.now)) ≡ Some (asked_of line)) }
@@ -266,22 +294,7 @@ fn line_of<'a>(alloc: Global, name: &str, given: &ArgMatches<'a>) -> Result<Comm
     if name == "test" {
         return test_line(alloc, given);
     }
-    if name == "shell" {
-        return Ok(CommandLine::Shell(Options::of(given), flag(given, "trace")));
-    }
-    if name == "draw" {
-        return Ok(CommandLine::Draw(Options::of(given)));
-    }
-    if name == "explain" {
-        return Ok(CommandLine::Explain(script(given), flag(given, "json")));
-    }
-    if name == "show" {
-        return show_line(alloc, given);
-    }
-    if name == "grammar" {
-        return Ok(CommandLine::Grammar);
-    }
-    Err(no_command(alloc)?)
+    shown_line(alloc, name, given)
 }
 
 /// What was found of words asks for.

@@ -1,9 +1,10 @@
 //! The commands and their options.
 
-ghost use Rattle.std.specs.Prelude.{◌≡◌, IfOk, IsOkAnd, false, codes};
+ghost use Rattle.std.specs.Prelude.{◌≡◌, IfOk, IsOkAnd, false, codes, map};
+ghost use Rattle.std.specs.List.{AllByRecursion};
 ghost use Rattle.clap.specs.Words.{AddsSubcommand, app_of, found_of, rows_of, rule_of};
 ghost use Rattle.clap.specs.declared.builder.command.Command.TheViews.{out-Command};
-ghost use Rattle.command_line.specs.Commands.{check, draw, explain, flag_rule, grammar, number_rule, named, nvmesgl, option_rule, optional_number_rule, running, shell, show, steps, test, threads, with_options, with_sizes, with_telling, with_threading, word_rule, words_rule};
+ghost use Rattle.command_line.specs.Commands.{check, draw, explain, grammar, number_rule, named, nvmesgl, option_rule, optional_number_rule, running, shell, show, size_rules, steps, test, threading_rules, threads, with_options, with_sizes, with_telling, with_threading, word_rule};
 ghost use Rattle.command_line.specs.Asked.{number_under};
 
 use crate::help::{
@@ -12,13 +13,17 @@ use crate::help::{
     TEST_AFTER, THREADS_ABOUT, THREADS_AFTER,
 };
 use crate::load_options::load_command;
+use crate::parts::{described, flag_arg, option_arg, text_arg, with_args, words_arg};
 use crate::serving::serve_arg;
 use clap::error::ErrorKind;
-use clap::{Arg, ArgAction, ArgMatches, Command, Error, value_parser};
+use clap::{Arg, ArgMatches, Command, Error, value_parser};
 use std::alloc::{AllocError, Global};
 
 /// What `nvmesgl --version` says behind the program's name.
 pub const VERSION: &str = "0.1.0";
+
+const PROGRAM_ABOUT: &str =
+    "An NVMe host driver and a modelled controller, played step by step or in threads";
 
 /// An option that is a number.
 #[derive(Clone, Copy)]
@@ -102,12 +107,7 @@ impl Number {
         ensures rule { rule_of result ≡ number_rule self.now.name.now self.now.shown.now }
         ensures local { result.global ≡ false }
     {
-        Arg::new(alloc, self.name)
-            .long(self.name)
-            .value_name("N")
-            .value_parser(value_parser!(u32))
-            .default_value(self.shown)
-            .help(self.help)
+        text_arg(alloc, self.name, "N", self.shown, self.help).value_parser(value_parser!(u32))
     }
 
     /// The option where it has no usual value.
@@ -115,11 +115,7 @@ impl Number {
         ensures rule { rule_of result ≡ optional_number_rule self.now.name.now }
         ensures local { result.global ≡ false }
     {
-        Arg::new(alloc, self.name)
-            .long(self.name)
-            .value_name("N")
-            .value_parser(value_parser!(u32))
-            .help(self.help)
+        option_arg(alloc, self.name, "N", self.help).value_parser(value_parser!(u32))
     }
 
     /// Its name on the command line, without the hyphens.
@@ -143,25 +139,30 @@ const EXPLAIN_JSON: &str = "Writes JSON, one object on each line";
 
 const SHOW_JSON: &str = "Prints a JSON object in place of lines";
 
+const IMAGE_HELP: &str = "The image's bytes, 1 to 65536 whole blocks, in place of --blocks";
+
+const SAVE_HELP: &str =
+    "Writes the image into this file, once the run has ended; - is standard output";
+
+const JOBS_HELP: &str = "The script is one of jobs, for `threads`";
+
+const FILES_HELP: &str =
+    "The files of the transcripts; - is standard input, and standard output with --update";
+
+const TRACE_HELP: &str = "Tells below each answer what the step moved, in bytes and decoded";
+
+const STRICT_HELP: &str = "Ends with status 4 where something is refused, or a status is not 0:00";
+
+const WORDS_HELP: &str = "`sqe`, `admin`, `cqe` or `sgl` and the bytes, or `status` and a status";
+
+const UPDATE_HELP: &str = "Writes what came into each file that differs";
+
 /// The option that names the file of an image.
 pub(crate) fn image_arg<'a>(alloc: Global) -> Arg<'a>
     ensures rule { rule_of result ≡ option_rule (codes "image") }
     ensures local { result.global ≡ false }
 {
-    Arg::new(alloc, "image")
-        .long("image")
-        .value_name("FILE")
-        .help("The image's bytes, 1 to 65536 whole blocks, in place of --blocks")
-}
-
-/// The option that names the file which the image is written into.
-fn save_arg<'a>(alloc: Global) -> Arg<'a>
-    ensures rule { rule_of result ≡ option_rule (codes "save") }
-    ensures local { result.global ≡ false }
-{
-    Arg::new(alloc, "save").long("save").value_name("FILE").help(
-        "Writes the image into this file, once the run has ended; - is standard output",
-    )
+    option_arg(alloc, "image", "FILE", IMAGE_HELP)
 }
 
 /// The word that names the file of a script.
@@ -174,85 +175,21 @@ fn script_arg<'a>(alloc: Global) -> Arg<'a>
     )
 }
 
-/// The option that says that a script is one of jobs.
-fn jobs_arg<'a>(alloc: Global) -> Arg<'a>
-    ensures rule { rule_of result ≡ flag_rule (codes "jobs") }
-    ensures local { result.global ≡ false }
+/// The numbers that a world is opened with.
+fn size_args<'a>(alloc: Global) -> Result<Vec<Arg<'a>>, AllocError>
+    ensures rules { IfOk result (λ args. map rule_of args.items ≡ size_rules) }
+    ensures local { IfOk result (λ args. AllByRecursion (λ arg. arg.global ≡ false) args.items) }
 {
-    Arg::new(alloc, "jobs")
-        .long("jobs")
-        .action(ArgAction::SetTrue)
-        .help("The script is one of jobs, for `threads`")
-}
-
-/// The words that name the files of transcripts.
-fn files_arg<'a>(alloc: Global) -> Arg<'a>
-    ensures rule { rule_of result ≡ words_rule (codes "files") }
-    ensures local { result.global ≡ false }
-{
-    Arg::new(alloc, "files")
-        .value_name("FILE")
-        .action(ArgAction::Append)
-        .required(true)
-        .help(
-            "The files of the transcripts; - is standard input, and standard output with --update",
-        )
-}
-
-/// The option that says that each step tells what it moved.
-fn trace_arg<'a>(alloc: Global) -> Arg<'a>
-    ensures rule { rule_of result ≡ flag_rule (codes "trace") }
-    ensures local { result.global ≡ false }
-{
-    Arg::new(alloc, "trace")
-        .long("trace")
-        .action(ArgAction::SetTrue)
-        .help("Tells below each answer what the step moved, in bytes and decoded")
-}
-
-/// The option that says that a refusal, or another status than 0:00, is a fault.
-fn strict_arg<'a>(alloc: Global) -> Arg<'a>
-    ensures rule { rule_of result ≡ flag_rule (codes "strict") }
-    ensures local { result.global ≡ false }
-{
-    Arg::new(alloc, "strict")
-        .long("strict")
-        .action(ArgAction::SetTrue)
-        .help("Ends with status 4 where something is refused, or a status is not 0:00")
-}
-
-/// The option that says that objects are written in place of lines.
-fn json_arg<'a>(alloc: Global, help: &'static str) -> Arg<'a>
-    ensures rule { rule_of result ≡ flag_rule (codes "json") }
-    ensures local { result.global ≡ false }
-{
-    Arg::new(alloc, "json")
-        .long("json")
-        .action(ArgAction::SetTrue)
-        .help(help)
-}
-
-/// The words that are decoded.
-fn words_arg<'a>(alloc: Global) -> Arg<'a>
-    ensures rule { rule_of result ≡ words_rule (codes "words") }
-    ensures local { result.global ≡ false }
-{
-    Arg::new(alloc, "words")
-        .value_name("WORD")
-        .action(ArgAction::Append)
-        .required(true)
-        .help("`sqe`, `admin`, `cqe` or `sgl` and the bytes, or `status` and a status")
-}
-
-/// The option that says that what came is written into the files.
-fn update_arg<'a>(alloc: Global) -> Arg<'a>
-    ensures rule { rule_of result ≡ flag_rule (codes "update") }
-    ensures local { result.global ≡ false }
-{
-    Arg::new(alloc, "update")
-        .long("update")
-        .action(ArgAction::SetTrue)
-        .help("Writes what came into each file that differs")
+    Ok(Vec::from_array(
+        alloc,
+        [
+            PAGES.arg(alloc),
+            QUEUES.arg(alloc),
+            ENTRIES.arg(alloc),
+            SEGMENT.arg(alloc),
+            BLOCKS.arg(alloc),
+        ],
+    )?)
 }
 
 /// A command with the numbers that a world is opened with.
@@ -260,12 +197,7 @@ pub(crate) fn with_sizes<'a>(alloc: Global, command: Command<'a>) -> Result<Comm
     ensures shape { IfOk result (λ whole. app_of whole ≡ with_sizes (app_of command.entry)) }
     ensures local { IfOk result (λ whole. (out-Command whole).has_globals ≡ (out-Command command.entry).has_globals) }
 {
-    command
-        .arg(PAGES.arg(alloc))?
-        .arg(QUEUES.arg(alloc))?
-        .arg(ENTRIES.arg(alloc))?
-        .arg(SEGMENT.arg(alloc))?
-        .arg(BLOCKS.arg(alloc))
+    with_args(command, size_args(alloc))
 }
 
 /// A command with these, an image, and the file of its lines.
@@ -287,7 +219,9 @@ fn with_telling<'a>(
     ensures shape { IfOk result (λ whole. app_of whole ≡ with_telling (app_of command.entry)) }
     ensures local { IfOk result (λ whole. (out-Command whole).has_globals ≡ (out-Command command.entry).has_globals) }
 {
-    command.arg(json_arg(alloc, json))?.arg(strict_arg(alloc))
+    command
+        .arg(flag_arg(alloc, "json", json))?
+        .arg(flag_arg(alloc, "strict", STRICT_HELP))
 }
 
 /// The command that plays a script of steps.
@@ -295,13 +229,26 @@ fn steps_command<'a>(alloc: Global) -> Result<Command<'a>, AllocError>
     ensures shape { IfOk result (λ command. app_of command ≡ steps) }
     ensures local { IfOk result (λ command. (out-Command command).has_globals ≡ false) }
 {
-    let command = Command::new(alloc, "steps")
-        .about("Plays a script")
-        .long_about(STEPS_ABOUT)
-        .after_help(STEPS_AFTER)
-        .arg(save_arg(alloc))?
-        .arg(trace_arg(alloc))?;
+    let command = described(alloc, "steps", "Plays a script", STEPS_ABOUT, STEPS_AFTER)
+        .arg(option_arg(alloc, "save", "FILE", SAVE_HELP))?
+        .arg(flag_arg(alloc, "trace", TRACE_HELP))?;
     with_options(alloc, with_telling(alloc, command, STEPS_JSON)?)
+}
+
+/// How jobs are run.
+fn threading_args<'a>(alloc: Global) -> Result<Vec<Arg<'a>>, AllocError>
+    ensures rules { IfOk result (λ args. map rule_of args.items ≡ threading_rules) }
+    ensures local { IfOk result (λ args. AllByRecursion (λ arg. arg.global ≡ false) args.items) }
+{
+    Ok(Vec::from_array(
+        alloc,
+        [
+            SUBMITTERS.arg(alloc),
+            DEPTH.arg(alloc),
+            LOG_LIMIT.optional_arg(alloc),
+            serve_arg(alloc),
+        ],
+    )?)
 }
 
 /// A command with how jobs are run.
@@ -309,11 +256,7 @@ fn with_threading<'a>(alloc: Global, command: Command<'a>) -> Result<Command<'a>
     ensures shape { IfOk result (λ whole. app_of whole ≡ with_threading (app_of command.entry)) }
     ensures local { IfOk result (λ whole. (out-Command whole).has_globals ≡ (out-Command command.entry).has_globals) }
 {
-    command
-        .arg(SUBMITTERS.arg(alloc))?
-        .arg(DEPTH.arg(alloc))?
-        .arg(LOG_LIMIT.optional_arg(alloc))?
-        .arg(serve_arg(alloc))
+    with_args(command, threading_args(alloc))
 }
 
 /// The command that runs jobs in threads.
@@ -321,10 +264,13 @@ pub(crate) fn threads_command<'a>(alloc: Global) -> Result<Command<'a>, AllocErr
     ensures shape { IfOk result (λ command. app_of command ≡ threads) }
     ensures local { IfOk result (λ command. (out-Command command).has_globals ≡ false) }
 {
-    let command = Command::new(alloc, "threads")
-        .about("Runs the jobs of a script in threads")
-        .long_about(THREADS_ABOUT)
-        .after_help(THREADS_AFTER);
+    let command = described(
+        alloc,
+        "threads",
+        "Runs the jobs of a script in threads",
+        THREADS_ABOUT,
+        THREADS_AFTER,
+    );
     let command = with_telling(alloc, command, THREADS_JSON)?;
     with_options(alloc, with_threading(alloc, command)?)
 }
@@ -334,13 +280,16 @@ pub(crate) fn check_command<'a>(alloc: Global) -> Result<Command<'a>, AllocError
     ensures shape { IfOk result (λ command. app_of command ≡ check) }
     ensures local { IfOk result (λ command. (out-Command command).has_globals ≡ false) }
 {
-    Command::new(alloc, "check")
-        .about("Tells all faults of a script, and runs nothing")
-        .long_about(CHECK_ABOUT)
-        .after_help(CHECK_AFTER)
-        .arg(jobs_arg(alloc))?
-        .arg(SUBMITTERS.arg(alloc))?
-        .arg(script_arg(alloc))
+    described(
+        alloc,
+        "check",
+        "Tells all faults of a script, and runs nothing",
+        CHECK_ABOUT,
+        CHECK_AFTER,
+    )
+    .arg(flag_arg(alloc, "jobs", JOBS_HELP))?
+    .arg(SUBMITTERS.arg(alloc))?
+    .arg(script_arg(alloc))
 }
 
 /// The command that tests transcripts.
@@ -348,12 +297,15 @@ fn test_command<'a>(alloc: Global) -> Result<Command<'a>, AllocError>
     ensures shape { IfOk result (λ command. app_of command ≡ test) }
     ensures local { IfOk result (λ command. (out-Command command).has_globals ≡ false) }
 {
-    let command = Command::new(alloc, "test")
-        .about("Plays transcripts, and tells which come out otherwise")
-        .long_about(TEST_ABOUT)
-        .after_help(TEST_AFTER)
-        .arg(update_arg(alloc))?
-        .arg(files_arg(alloc))?;
+    let command = described(
+        alloc,
+        "test",
+        "Plays transcripts, and tells which come out otherwise",
+        TEST_ABOUT,
+        TEST_AFTER,
+    )
+    .arg(flag_arg(alloc, "update", UPDATE_HELP))?
+    .arg(words_arg(alloc, "files", "FILE", FILES_HELP))?;
     with_sizes(alloc, command)
 }
 
@@ -362,11 +314,14 @@ fn shell_command<'a>(alloc: Global) -> Result<Command<'a>, AllocError>
     ensures shape { IfOk result (λ command. app_of command ≡ shell) }
     ensures local { IfOk result (λ command. (out-Command command).has_globals ≡ false) }
 {
-    let command = Command::new(alloc, "shell")
-        .about("Answers one line after the other, each at once")
-        .long_about(SHELL_ABOUT)
-        .after_help(SHELL_AFTER)
-        .arg(trace_arg(alloc))?;
+    let command = described(
+        alloc,
+        "shell",
+        "Answers one line after the other, each at once",
+        SHELL_ABOUT,
+        SHELL_AFTER,
+    )
+    .arg(flag_arg(alloc, "trace", TRACE_HELP))?;
     with_options(alloc, command)
 }
 
@@ -375,10 +330,13 @@ fn draw_command<'a>(alloc: Global) -> Result<Command<'a>, AllocError>
     ensures shape { IfOk result (λ command. app_of command ≡ draw) }
     ensures local { IfOk result (λ command. (out-Command command).has_globals ≡ false) }
 {
-    let command = Command::new(alloc, "draw")
-        .about("Draws a script: one page of HTML with a picture of each step")
-        .long_about(DRAW_ABOUT)
-        .after_help(DRAW_AFTER);
+    let command = described(
+        alloc,
+        "draw",
+        "Draws a script: one page of HTML with a picture of each step",
+        DRAW_ABOUT,
+        DRAW_AFTER,
+    );
     with_options(alloc, command)
 }
 
@@ -387,12 +345,15 @@ fn explain_command<'a>(alloc: Global) -> Result<Command<'a>, AllocError>
     ensures shape { IfOk result (λ command. app_of command ≡ explain) }
     ensures local { IfOk result (λ command. (out-Command command).has_globals ≡ false) }
 {
-    Command::new(alloc, "explain")
-        .about("Tells what the controller makes of an entry and its list")
-        .long_about(EXPLAIN_ABOUT)
-        .after_help(EXPLAIN_AFTER)
-        .arg(json_arg(alloc, EXPLAIN_JSON))?
-        .arg(script_arg(alloc))
+    described(
+        alloc,
+        "explain",
+        "Tells what the controller makes of an entry and its list",
+        EXPLAIN_ABOUT,
+        EXPLAIN_AFTER,
+    )
+    .arg(flag_arg(alloc, "json", EXPLAIN_JSON))?
+    .arg(script_arg(alloc))
 }
 
 /// The command that decodes bytes.
@@ -400,12 +361,15 @@ fn show_command<'a>(alloc: Global) -> Result<Command<'a>, AllocError>
     ensures shape { IfOk result (λ command. app_of command ≡ show) }
     ensures local { IfOk result (λ command. (out-Command command).has_globals ≡ false) }
 {
-    Command::new(alloc, "show")
-        .about("Decodes an entry or a descriptor")
-        .long_about(SHOW_ABOUT)
-        .after_help(SHOW_AFTER)
-        .arg(json_arg(alloc, SHOW_JSON))?
-        .arg(words_arg(alloc))
+    described(
+        alloc,
+        "show",
+        "Decodes an entry or a descriptor",
+        SHOW_ABOUT,
+        SHOW_AFTER,
+    )
+    .arg(flag_arg(alloc, "json", SHOW_JSON))?
+    .arg(words_arg(alloc, "words", "WORD", WORDS_HELP))
 }
 
 /// The command that prints what a script may say.
@@ -420,36 +384,28 @@ fn grammar_command<'a>(alloc: Global) -> Command<'a>
 fn program<'a>(alloc: Global) -> Result<Command<'a>, AllocError>
     ensures { IfOk result (λ command. app_of command ≡ named) }
 {
-    let command = Command::new(alloc, "nvmesgl").bin_name("nvmesgl")?;
-    Ok(
-        command
-            .version(VERSION)
-            .about(
-                "An NVMe host driver and a modelled controller, played step by step or in threads",
-            )
-            .long_about(ABOUT)
-            .after_help(AFTER)
-            .subcommand_required(true),
-    )
+    described(alloc, "nvmesgl", PROGRAM_ABOUT, ABOUT, AFTER)
+        .version(VERSION)
+        .subcommand_required(true)
+        .bin_name("nvmesgl")
 }
 
-/// A command with one more below it, if that was made.
+/// A command with one more below it, if both were made.
 fn with_command<'a>(
-    whole: Command<'a>,
+    whole: Result<Command<'a>, AllocError>,
     added: Result<Command<'a>, AllocError>,
 ) -> Result<Command<'a>, AllocError>
-    ensures { IfOk result (λ new. IsOkAnd added.entry (λ command. AddsSubcommand whole.entry command new)) }
+    ensures { IfOk result (λ new. IsOkAnd whole.entry (λ old. IsOkAnd added.entry (λ command. AddsSubcommand old command new))) }
 {
-    let added = added?;
-    whole.subcommand(added)
+    whole?.subcommand(added?)
 }
 
 /// The program with the commands that play a script or a load.
 fn running<'a>(alloc: Global) -> Result<Command<'a>, AllocError>
     ensures { IfOk result (λ command. app_of command ≡ running) }
 {
-    let whole = with_command(program(alloc)?, steps_command(alloc))?;
-    let whole = with_command(whole, threads_command(alloc))?;
+    let whole = with_command(program(alloc), steps_command(alloc));
+    let whole = with_command(whole, threads_command(alloc));
     with_command(whole, load_command(alloc))
 }
 
@@ -457,13 +413,13 @@ fn running<'a>(alloc: Global) -> Result<Command<'a>, AllocError>
 pub(crate) fn command<'a>(alloc: Global) -> Result<Command<'a>, AllocError>
     ensures { IfOk result (λ command. app_of command ≡ nvmesgl) }
 {
-    let whole = with_command(running(alloc)?, check_command(alloc))?;
-    let whole = with_command(whole, test_command(alloc))?;
-    let whole = with_command(whole, shell_command(alloc))?;
-    let whole = with_command(whole, draw_command(alloc))?;
-    let whole = with_command(whole, explain_command(alloc))?;
-    let whole = with_command(whole, show_command(alloc))?;
-    whole.subcommand(grammar_command(alloc))
+    let whole = with_command(running(alloc), check_command(alloc));
+    let whole = with_command(whole, test_command(alloc));
+    let whole = with_command(whole, shell_command(alloc));
+    let whole = with_command(whole, draw_command(alloc));
+    let whole = with_command(whole, explain_command(alloc));
+    let whole = with_command(whole, show_command(alloc));
+    with_command(whole, Ok(grammar_command(alloc)))
 }
 
 /// Says of a command what is wrong with its words.

@@ -8,6 +8,7 @@ mod commands;
 mod help;
 mod load;
 mod load_options;
+mod parts;
 mod sentences;
 mod serving;
 mod threads;

@@ -4,12 +4,13 @@ ghost use Rattle.std.specs.Prelude.{◌≡◌, IfOk, false, codes, map};
 ghost use Rattle.std.specs.List.{AllByRecursion};
 ghost use Rattle.clap.specs.Words.{app_of, rule_of};
 ghost use Rattle.clap.specs.declared.builder.command.Command.TheViews.{out-Command};
-ghost use Rattle.command_line.specs.Commands.{amount_rules, check_rules, flag_rule, load, option_rule, text_rule, with_amounts, with_checks};
+ghost use Rattle.command_line.specs.Commands.{amount_rules, check_rules, load, with_amounts, with_checks};
 
 use crate::commands::{LOG_LIMIT, Number, image_arg, with_sizes};
 use crate::help::{LOAD_ABOUT, LOAD_AFTER};
+use crate::parts::{described, flag_arg, option_arg, text_arg, with_args};
 use crate::serving::serve_arg;
-use clap::{Arg, ArgAction, Command};
+use clap::{Arg, Command};
 use std::alloc::{AllocError, Global};
 
 pub(crate) const SUBMITTERS: Number = Number {
@@ -73,51 +74,6 @@ const INTERVAL_HELP: &str = "Writes that file anew after so many seconds, again 
 
 const FORMAT_HELP: &str = "What standard output gets: normal, a line, or json";
 
-/// An option with a value, which has a usual one.
-fn text_arg<'a>(
-    alloc: Global,
-    name: &'static str,
-    shape: &'static str,
-    usual: &'static str,
-    help: &'static str,
-) -> Arg<'a>
-    ensures rule { rule_of result ≡ text_rule name.now usual.now }
-    ensures local { result.global ≡ false }
-{
-    Arg::new(alloc, name)
-        .long(name)
-        .value_name(shape)
-        .default_value(usual)
-        .help(help)
-}
-
-/// An option with a value.
-fn option_arg<'a>(
-    alloc: Global,
-    name: &'static str,
-    shape: &'static str,
-    help: &'static str,
-) -> Arg<'a>
-    ensures rule { rule_of result ≡ option_rule name.now }
-    ensures local { result.global ≡ false }
-{
-    Arg::new(alloc, name)
-        .long(name)
-        .value_name(shape)
-        .help(help)
-}
-
-/// An option without a value.
-fn flag_arg<'a>(alloc: Global, name: &'static str, help: &'static str) -> Arg<'a>
-    ensures rule { rule_of result ≡ flag_rule name.now }
-    ensures local { result.global ≡ false }
-{
-    Arg::new(alloc, name)
-        .long(name)
-        .action(ArgAction::SetTrue)
-        .help(help)
-}
-
 /// The options that say what is done, and how much.
 fn amount_args<'a>(alloc: Global) -> Result<Vec<Arg<'a>>, AllocError>
     ensures rules { IfOk result (λ args. map rule_of args.items ≡ amount_rules) }
@@ -142,7 +98,7 @@ fn with_amounts<'a>(alloc: Global, command: Command<'a>) -> Result<Command<'a>, 
     ensures shape { IfOk result (λ whole. app_of whole ≡ with_amounts (app_of command.entry)) }
     ensures local { IfOk result (λ whole. (out-Command whole).has_globals ≡ (out-Command command.entry).has_globals) }
 {
-    command.args(amount_args(alloc)?)
+    with_args(command, amount_args(alloc))
 }
 
 /// The options that say how it is run, what it checks and what it tells.
@@ -171,7 +127,7 @@ fn with_checks<'a>(alloc: Global, command: Command<'a>) -> Result<Command<'a>, A
     ensures shape { IfOk result (λ whole. app_of whole ≡ with_checks (app_of command.entry)) }
     ensures local { IfOk result (λ whole. (out-Command whole).has_globals ≡ (out-Command command.entry).has_globals) }
 {
-    command.args(check_args(alloc)?)
+    with_args(command, check_args(alloc))
 }
 
 /// The command that makes its jobs.
@@ -179,10 +135,13 @@ pub(crate) fn load_command<'a>(alloc: Global) -> Result<Command<'a>, AllocError>
     ensures shape { IfOk result (λ command. app_of command ≡ load) }
     ensures local { IfOk result (λ command. (out-Command command).has_globals ≡ false) }
 {
-    let command = Command::new(alloc, "load")
-        .about("Makes commands, runs them in threads and measures")
-        .long_about(LOAD_ABOUT)
-        .after_help(LOAD_AFTER);
+    let command = described(
+        alloc,
+        "load",
+        "Makes commands, runs them in threads and measures",
+        LOAD_ABOUT,
+        LOAD_AFTER,
+    );
     let command = with_checks(alloc, with_amounts(alloc, command)?)?;
     with_sizes(alloc, command)?.arg(image_arg(alloc))
 }

@@ -5,8 +5,12 @@ ghost use Rattle.clap.specs.Words.{found_of, rows_of, rule_of};
 ghost use Rattle.command_line.specs.Asked.{serving_in, serving_named};
 ghost use Rattle.command_line.specs.Commands.{text_rule};
 
+use crate::parts::text_arg;
 use clap::{Arg, ArgMatches};
 use std::alloc::{AllocError, Global};
+
+const SERVE_HELP: &str =
+    "Who serves: ringer, each submitter as it rings, or controller, its thread alone";
 
 /// Who is asked to serve while threads run.
 #[derive(Clone, Copy, Debug, PartialEq, Eq)]
@@ -37,11 +41,7 @@ pub(crate) fn serve_arg<'a>(alloc: Global) -> Arg<'a>
     ensures rule { rule_of result ≡ text_rule (codes "serve") (codes "ringer") }
     ensures local { result.global ≡ false }
 {
-    Arg::new(alloc, "serve")
-        .long("serve")
-        .value_name("WHO")
-        .default_value("ringer")
-        .help("Who serves: ringer, each submitter as it rings, or controller, its thread alone")
+    text_arg(alloc, "serve", "WHO", "ringer", SERVE_HELP)
 }
 
 /// Who was named.

@@ -31,7 +31,7 @@ pub trait Data<K, A: Allocator> {
     /// what may be kept of a finished command
     ghost keeps: { KeepsOf Self K };
 
-    /// Puts the bytes into the data pieces of a Write or a Compare, and zeros after them. A Read's draft stays as it is.
+    /// Puts the bytes into the data pieces of a Write, a Compare or a Deallocate, and zeros after them. A Read's draft stays as it is.
     ///
     /// # Errors
     ///

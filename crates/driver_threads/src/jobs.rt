@@ -18,7 +18,7 @@ pub struct Job<R = Request, B = Bytes> {
     pub q: u16,
     /// What is asked for.
     pub request: R,
-    /// The data of a Write or a Compare, or what makes them ([`Data`](crate::Data)); where they are shorter than the data pieces, zeros stand
+    /// The data of a Write, a Compare or a Deallocate, or what makes them ([`Data`](crate::Data)); where they are shorter than the data pieces, zeros stand
     /// after them. A Read has none, and what stands here of it is not written.
     pub bytes: B,
 }
@@ -33,7 +33,7 @@ pub enum JobEnd<B = Bytes> {
     Done {
         /// How the command ended.
         status: Status,
-        /// What it gathered: a Read's data pieces joined in order, and nothing of a Write or a Compare. Where the job's data keep
+        /// What it gathered: a Read's data pieces joined in order, and nothing of another kind. Where the job's data keep
         /// something else ([`Data`](crate::Data)), that.
         bytes: B,
     },

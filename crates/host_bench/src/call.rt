@@ -103,7 +103,7 @@ pub enum Call<R = Request, B = Bytes> {
         /// Its identifier.
         cid: u16,
     },
-    /// Gather a Read's bytes from a finished command; of a Write or a Compare there are none.
+    /// Gather a Read's bytes from a finished command; of another kind there are none.
     Gather {
         /// The command's queue.
         q: u16,
@@ -190,7 +190,7 @@ pub enum Reply<B = Bytes> {
         /// What its completion hinted at.
         hints: Hints,
     },
-    /// A Read's bytes, and none of a Write or a Compare.
+    /// A Read's bytes, and none of another kind.
     Gathered(B),
     /// An admin command was sent, under this identifier of queue 0.
     Sent {

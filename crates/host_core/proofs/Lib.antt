@@ -14,6 +14,7 @@ pub mod Submitted
 pub mod Reaping
 pub mod Reaps
 pub mod Sending
+pub mod Refusing
 pub mod Creations
 pub mod Resets
 pub mod Outstanding

@@ -2,7 +2,7 @@
 
 ghost use Rattle.std.specs.Prelude.{◌≡◌, ◌<◌, not, position, length, slice_get, Some};
 ghost use Rattle.machine_model.specs.After.{change};
-ghost use Rattle.machine_model.specs.Refusals.{has_cq_alone as spec_has_cq_alone, is_changing as spec_is_changing, is_deleted as spec_is_deleted, is_deleting as spec_is_deleting, is_live as spec_is_live};
+ghost use Rattle.machine_model.specs.Refusals.{in_service, has_cq_alone as spec_has_cq_alone, is_changing as spec_is_changing, is_deleted as spec_is_deleted, is_deleting as spec_is_deleting, is_live as spec_is_live, is_reaped as spec_is_reaped};
 ghost use Rattle.host_core.specs.Commands.{ClaimsNext, passes, state_at, takes_no_io as spec_takes_no_io, with_claim};
 ghost use Rattle.host_core.specs.Reaping.{lacks_completion, with_state};
 ghost use Rattle.host_core.specs.Ringing.{lacks_submission};
@@ -23,17 +23,31 @@ pub(crate) fn host_state<A: Allocator>(queues: &[Queue<HostPair<A>>], q: u16) ->
     }
 }
 
+/// Whether a queue in this state is in service.
+fn is_in_service(state: Option<HostState>) -> bool
+    ensures { result ≡ passes in_service state }
+{
+    match state {
+        Some(HostState::Live | HostState::Deleting { .. }) => true,
+        _ => false,
+    }
+}
+
+/// Whether completions of a queue in this state are reaped.
+fn is_reaped(state: Option<HostState>) -> bool
+    ensures { result ≡ passes spec_is_reaped state }
+{
+    match state {
+        Some(HostState::Live | HostState::Deleting { .. } | HostState::Retired) => true,
+        _ => false,
+    }
+}
+
 /// Whether no I/O queue of this number, in this state, is in service.
 pub(crate) fn takes_no_io(q: u16, state: Option<HostState>) -> bool
     ensures { result ≡ spec_takes_no_io q state }
 {
-    if q == 0 {
-        return true;
-    }
-    match state {
-        Some(HostState::Live | HostState::Deleting { .. }) => false,
-        _ => true,
-    }
+    q == 0 || !is_in_service(state)
 }
 
 /// Whether a queue in this state is being deleted.
@@ -71,12 +85,9 @@ pub(crate) fn is_deleted(state: Option<HostState>) -> bool
 pub(crate) fn is_live<A: Allocator>(queues: &[Queue<HostPair<A>>], q: u16) -> bool
     ensures { result ≡ passes spec_is_live (state_at queues.now q) }
 {
-    match queues.get(usize::from(q)) {
-        Some(queue) => match queue.state {
-            HostState::Live => true,
-            _ => false,
-        },
-        None => false,
+    match host_state(queues, q) {
+        Some(HostState::Live) => true,
+        _ => false,
     }
 }
 
@@ -94,26 +105,14 @@ pub(crate) fn has_cq_alone(state: Option<HostState>) -> bool
 pub(crate) fn has_no_submission<A: Allocator>(queues: &[Queue<HostPair<A>>], q: u16) -> bool
     ensures { result ≡ lacks_submission (slice_get queues.now q) }
 {
-    match queues.get(usize::from(q)) {
-        Some(queue) => match queue.state {
-            HostState::Live | HostState::Deleting { noted: _ } => false,
-            _ => true,
-        },
-        None => true,
-    }
+    !is_in_service(host_state(queues, q))
 }
 
 /// Whether no queue of a number has completions that are reaped.
 pub(crate) fn has_no_completion<A: Allocator>(queues: &[Queue<HostPair<A>>], q: u16) -> bool
     ensures { result ≡ lacks_completion (slice_get queues.now q) }
 {
-    match queues.get(usize::from(q)) {
-        Some(queue) => match queue.state {
-            HostState::Live | HostState::Deleting { noted: _ } | HostState::Retired => false,
-            _ => true,
-        },
-        None => true,
-    }
+    !is_reaped(host_state(queues, q))
 }
 
 /// The identifier that a queue would claim next.

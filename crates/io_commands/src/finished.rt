@@ -1,6 +1,6 @@
 //! A command that has ended, with its pages taken out again.
 
-ghost use Rattle.std.specs.Prelude.{◌≡◌, ◌<◌, ◌≤◌, ◌++◌, drop, length, IfOk, IfNone, IfSome, OnErr, []};
+ghost use Rattle.std.specs.Prelude.{◌≡◌, ◌<◌, ◌≤◌, ◌++◌, drop, length, IfOk, IfErr, OnErr, []};
 ghost use Rattle.std.specs.Str.{bytes_eq};
 ghost use Rattle.io_commands.specs.Requests.{data_count};
 ghost use Rattle.io_commands.specs.DataBytes.{gathered};
@@ -164,24 +164,28 @@ impl<A: Allocator> Finished<A> {
         Ok(bytes)
     }
 
-    /// Lays the bytes that [`Finished::gather`] would bring at the front of a buffer: how many they are; none, and nothing is laid, where
-    /// the buffer is too short. It takes no memory.
-    pub fn gather_into(&self, into: &mut [u8]) -> Option<usize>
-        ensures laid { IfSome result (λ n. into.new ≡ gathered_from self.now ++ drop n into.old) }
-        ensures count { IfSome result (λ n. n ≡ length (gathered_from self.now)) }
-        ensures short { IfNone result (length into.old < gathered_length self.now.request.kind self.now.request.pieces) }
-        ensures kept { IfNone result (into.new ≡ into.old) }
+    /// Lays the bytes that [`Finished::gather`] would bring at the front of a buffer: how many they are. It takes no memory.
+    ///
+    /// # Errors
+    ///
+    /// How many they are, where the buffer is too short. Then nothing is laid.
+    pub fn gather_into(&self, into: &mut [u8]) -> Result<usize, usize>
+        ensures laid { IfOk result (λ n. into.new ≡ gathered_from self.now ++ drop n into.old) }
+        ensures count { IfOk result (λ n. n ≡ length (gathered_from self.now)) }
+        ensures wanted { IfErr result (λ n. n ≡ gathered_length self.now.request.kind self.now.request.pieces) }
+        ensures short { IfErr result (λ n. length into.old < n) }
+        ensures kept { OnErr result (into.new ≡ into.old) }
     {
         if !self.request.kind.brings_data() {
-            return Some(0);
+            return Ok(0);
         }
         let count = self.request.data_bytes() as usize;
         if into.len() < count {
-            return None;
+            return Err(count);
         }
         let data = self.request.pieces.data_pages();
         lay(self.request.pieces.as_slice(), &self.pages[..data], into);
-        Some(count)
+        Ok(count)
     }
 
     /// Whether these are the bytes that [`Finished::gather`] would bring. It takes no memory, and copies nothing.

@@ -12,5 +12,7 @@ mod Told
 mod Laying
 mod Serving
 mod Scattering
+mod Gathered
+mod Releasing
 mod Polling
 mod Tags

@@ -9,8 +9,7 @@ use Rattle.page_memory.proofs.Lists.{all-append}
 use Rattle.step_core.specs.{Bench.{Does, DoesAll}, Values.{Step, Reply}}
 use Rattle.world_bench.proofs.Benches.{does_more}
 use Rattle.nvmesgl_c.specs.MachineServing.{IsOwn, Serves, is_completed, refusal_in}
-use Rattle.nvmesgl_c.specs.MachineWhole.{Carries, ComesOut, Names, ReapsUntil, stops}
-use Rattle.nvmesgl_c.specs.declared.machine.{carrying.Carried.{Carried, TheVariants.{Ended, NotReserved, GivenUp, Left}}}
+use Rattle.nvmesgl_c.specs.MachineWhole.{Carries, ComesOut, Names, Outcome, Ended, NotReserved, GivenUp, Left, ReapsUntil, stops}
 use Rattle.io_commands.specs.Asked.{Request}
 use Rattle.step_core.specs.declared.step.Reply.TheVariants as reply
 use Rattle.step_core.specs.declared.step.Step.TheVariants as step
@@ -125,7 +124,7 @@ reaped_last q cid t mid new taken r so does is =
     record { replies = so.replies ++ r ∷ []; does = reap_more q t mid new so.replies r so.does does; stop = inl (so.replies, r, refl, is, so.on) }
 
 -- a reserved command that came out so
-pub carried_on : (t reserved new : Table) (q cid : ℕ) (request : Request) (bytes : Option (List ℕ)) (answer : Reply) (carried : Carried)
+pub carried_on : (t reserved new : Table) (q cid : ℕ) (request : Request) (bytes : Option (List ℕ)) (answer : Reply) (carried : Outcome)
     → Does t (step.Reserve q request) answer reserved → Names cid answer → ComesOut reserved q cid bytes carried new → Carries t q request bytes carried new
 carried_on t reserved new q cid request bytes answer (NotReserved why) does named comes = absurd comes
 carried_on t reserved new q cid request bytes answer (Ended status hints gathered) does named comes =

@@ -1,6 +1,7 @@
 -- What each call answers, and what it leaves of the host that a handle keeps.
 use Rattle.std.specs.Prelude.{◌≡◌, ◌⊎◌, ◌<◌, ◌++◌, ℕ, Result, Ok, Err, List, length, drop}
-use Rattle.nvmesgl_c.specs.{Answers.nothing, HostAnswers.{bell_of, told}, HostCodes.code_of_reply, HostKept.{Kept, code_in}}
+use Rattle.machine_model.specs.Script.{finished_at}
+use Rattle.nvmesgl_c.specs.{Answers.nothing, Gathering.IsGathered, HostAnswers.{bell_of, told}, HostCodes.code_of_reply, HostKept.{Kept, code_in}}
 use Rattle.nvmesgl_c.specs.declared.{host.answer.CDoorbell.CDoorbell, words.answer.Answer.Answer}
 use Rattle.host_bench.specs.{Calls.Does, Values.{Call, Reply}}
 use Rattle.host_bench.specs.declared.call.Reply.TheVariants as reply
@@ -43,3 +44,8 @@ pub record Gathers (t : Kept) (q cid code : ℕ) (old buffer : List ℕ) (answer
   pub does : DoesKept t (call.Gather q cid) reply new
   pub laid : Laid reply code old buffer
   pub answer_is : answer ≡ told reply
+
+-- of a command of the host that a handle keeps so many bytes were gathered to the front of a buffer, without a call
+abbrev pub IsGatheredOf : Kept → ℕ → ℕ → ℕ → List ℕ → List ℕ → Type 0
+IsGatheredOf (Err h) q cid count old buffer = ⊥
+IsGatheredOf (Ok t) q cid count old buffer = IsGathered (finished_at q cid t.bench.finished) count old buffer

@@ -7,6 +7,7 @@ pub mod Images
 pub mod Requests
 pub mod AdminRequests
 pub mod Buffers
+pub mod Gathering
 pub mod Owners
 pub mod Named
 pub mod Regions
@@ -19,6 +20,7 @@ pub mod MachineOwned
 pub mod MachineKept
 pub mod MachineServing
 pub mod MachineWhole
+pub mod MachineCarried
 pub mod ControllerCalls
 pub mod ControllerCodes
 pub mod ControllerLooks

@@ -1,7 +1,8 @@
 -- What each call answers, and what it leaves of the bench that a handle keeps.
 use Rattle.std.specs.Prelude.{◌≡◌, ◌⊎◌, ◌<◌, ◌++◌, ℕ, Result, Ok, Err, List, length, drop, take}
 use Rattle.io_commands.specs.Asked.{Request}
-use Rattle.nvmesgl_c.specs.{Answers.nothing, MachineAnswers.told, MachineCodes.code_of_reply, MachineKept.{Kept, code_in}, Requests.{asked_of, IsMade}}
+use Rattle.machine_model.specs.Script.{finished_at}
+use Rattle.nvmesgl_c.specs.{Answers.nothing, Gathering.IsGathered, MachineAnswers.told, MachineCodes.code_of_reply, MachineKept.{Kept, code_in}, Requests.{asked_of, IsMade}}
 use Rattle.nvmesgl_c.specs.declared.words.{answer.Answer.Answer, asked.CRequest.CRequest, piece.CPiece.CPiece}
 use Rattle.step_core.specs.{Bench.Does, Values.{Step, Reply}}
 use Rattle.nvmesgl_c.specs.Requests as requests
@@ -56,3 +57,8 @@ pub record Gathers (t : Kept) (q cid code : ℕ) (old buffer : List ℕ) (answer
   pub does : DoesKept t (step.Gather q cid) reply new
   pub laid : Laid reply code old buffer
   pub answer_is : answer ≡ told reply
+
+-- of a command of the bench that a handle keeps so many bytes were gathered to the front of a buffer, without a step
+abbrev pub IsGatheredOf : Kept → ℕ → ℕ → ℕ → List ℕ → List ℕ → Type 0
+IsGatheredOf (Err h) q cid count old buffer = ⊥
+IsGatheredOf (Ok t) q cid count old buffer = IsGathered (finished_at q cid t.finished) count old buffer

@@ -6,7 +6,7 @@ use Rattle.entry_codec.specs.declared.{hints.Hints.Hints, status.Status.Status}
 use Rattle.machine_model.specs.Script.{Table}
 use Rattle.step_core.specs.{Bench.{Does, DoesAll}, Values.{Step, Reply}}
 use Rattle.nvmesgl_c.specs.{Answers.{nothing, collected}, MachineAnswers.told_of, MachineCalls.Refuses, MachineCodes.code_of_answer, MachineKept.{Kept, code_in}, MachineServing.Serves, Requests.request_of, declared.words.answer.Answer.Answer}
-use Rattle.nvmesgl_c.specs.declared.machine.{carrying.Carried.{Carried, TheVariants.{Ended, NotReserved, GivenUp, Left}}, serve.Served.Served}
+use Rattle.nvmesgl_c.specs.declared.machine.serve.Served.{Served}
 use Rattle.io_commands.specs.declared.request.Kind.TheVariants as kind
 use Rattle.machine_model.specs.declared.words.Reaped.TheVariants as reaps
 use Rattle.step_core.specs.declared.step.Reply.TheVariants as reply
@@ -119,8 +119,19 @@ pub record GivesUp (t : Table) (q cid : ℕ) (bytes : Option (List ℕ)) (why : 
   pub fails : FirstFails t (begin_steps q cid bytes) why stopped
   pub cancels : Does stopped (step.Cancel q cid) answer new
 
+-- how a whole command came out
+pub data Outcome : Type 0 where
+  -- it ended, its bytes were gathered, and it was released
+  Ended : Status → Hints → (gathered : List ℕ) → Outcome
+  -- what the reservation answered
+  NotReserved : Reply → Outcome
+  -- what was answered that was not done, and it was cancelled
+  GivenUp : Reply → Outcome
+  -- it is outstanding, and what was answered that was not done
+  Left : (cid : ℕ) → Reply → Outcome
+
 -- how a reserved command came out
-abbrev pub ComesOut : Table → ℕ → ℕ → Option (List ℕ) → Carried → Table → Type 0
+abbrev pub ComesOut : Table → ℕ → ℕ → Option (List ℕ) → Outcome → Table → Type 0
 ComesOut t q cid bytes (Ended status hints gathered) new = (gone : Table) × Runs t q cid bytes gone × Finishes gone q cid status hints gathered new
 ComesOut t q cid bytes (NotReserved why) new = ⊥
 ComesOut t q cid bytes (GivenUp why) new = GivesUp t q cid bytes why new
@@ -130,41 +141,41 @@ abbrev pub is_reserved : Reply → Bool
 is_reserved (reply.Reserved q cid front back) = true
 is_reserved r = false
 
-pub record CarriesOn (t : Table) (q : ℕ) (request : Request) (bytes : Option (List ℕ)) (carried : Carried) (new : Table) : Type 0 where
+pub record CarriesOn (t : Table) (q : ℕ) (request : Request) (bytes : Option (List ℕ)) (carried : Outcome) (new : Table) : Type 0 where
   pub cid : ℕ
   pub reserved : Table
   pub reserves : IsReserved t q request cid reserved
   pub comes : ComesOut reserved q cid bytes carried new
 
-abbrev pub Carries : Table → ℕ → Request → Option (List ℕ) → Carried → Table → Type 0
+abbrev pub Carries : Table → ℕ → Request → Option (List ℕ) → Outcome → Table → Type 0
 Carries t q request bytes (NotReserved why) new = Does t (step.Reserve q request) why new × (is_reserved why ≡ false)
 Carries t q request bytes carried new = CarriesOn t q request bytes carried new
 
 -- What C is told
 
-abbrev pub code_of_carried : Carried → ℕ
+abbrev pub code_of_carried : Outcome → ℕ
 code_of_carried (Ended status hints gathered) = 0
 code_of_carried (NotReserved why) = code_of_answer why
 code_of_carried (GivenUp why) = code_of_answer why
 code_of_carried (Left cid why) = code_of_answer why
 
-abbrev pub told_carried : Carried → Answer
+abbrev pub told_carried : Outcome → Answer
 told_carried (Ended status hints gathered) = record (collected status hints) { bytes = length gathered }
 told_carried (NotReserved why) = told_of why
 told_carried (GivenUp why) = told_of why
 told_carried (Left cid why) = record nothing { state = 11; cid = cid }
 
 -- a command of a handle that keeps a bench or none
-abbrev pub CarriesKept : Kept → ℕ → Request → Option (List ℕ) → Result Carried ℕ → Kept → Type 0
+abbrev pub CarriesKept : Kept → ℕ → Request → Option (List ℕ) → Result Outcome ℕ → Kept → Type 0
 CarriesKept (Err h) q request bytes (Err code) new = (code ≡ code_in h) × (new ≡ Err h)
 CarriesKept (Ok t) q request bytes (Ok carried) (Ok new) = Carries t q request bytes carried new
 CarriesKept t q request bytes carried new = ⊥
 
-abbrev pub code_of : Result Carried ℕ → ℕ
+abbrev pub code_of : Result Outcome ℕ → ℕ
 code_of (Err code) = code
 code_of (Ok carried) = code_of_carried carried
 
-abbrev pub told_of_kept : Result Carried ℕ → Answer
+abbrev pub told_of_kept : Result Outcome ℕ → Answer
 told_of_kept (Err code) = nothing
 told_of_kept (Ok carried) = told_carried carried
 
@@ -174,21 +185,21 @@ IsTurnedAway t n code answer new = ((1048576 < n) × Refuses t 43 code answer ne
 
 -- a Write or a Compare of these bytes
 pub record Sends (t : Kept) (q : ℕ) (kind : Kind) (slba : ℕ) (bytes : List ℕ) (code : ℕ) (answer : Answer) (new : Kept) : Type 0 where
-  pub carried : Result Carried ℕ
+  pub carried : Result Outcome ℕ
   pub few : length bytes ≤ 1048576
   pub carries : CarriesKept t q (request_of kind slba (length bytes)) (Some bytes) carried new
   pub code_is : code ≡ code_of carried
   pub answer_is : answer ≡ told_of_kept carried
 
 -- a Read's bytes at the front of a buffer, where they fit
-abbrev pub LaidOf : Result Carried ℕ → ℕ → List ℕ → List ℕ → Type 0
+abbrev pub LaidOf : Result Outcome ℕ → ℕ → List ℕ → List ℕ → Type 0
 LaidOf (Ok (Ended status hints gathered)) code old new =
     ((length old < length gathered) × (code ≡ 5) × (new ≡ old)) ⊎ ((code ≡ 0) × (new ≡ gathered ++ drop (length gathered) old))
 LaidOf carried code old new = (code ≡ code_of carried) × (new ≡ old)
 
 -- a Read into a buffer
 pub record Brings (t : Kept) (q slba : ℕ) (old buffer : List ℕ) (code : ℕ) (answer : Answer) (new : Kept) : Type 0 where
-  pub carried : Result Carried ℕ
+  pub carried : Result Outcome ℕ
   pub few : length old ≤ 1048576
   pub carries : CarriesKept t q (request_of kind.Read slba (length old)) None carried new
   pub laid : LaidOf carried code old buffer

@@ -19,7 +19,7 @@ mod steps;
 mod vectored;
 mod whole;
 
-pub use carrying::Carried;
+pub use carrying::{Brought, Carried};
 pub use handle::Handle;
 pub use looks::CCounts;
 pub use options::Options;

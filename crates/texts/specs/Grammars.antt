@@ -33,7 +33,7 @@ about_command command.Abort = codes "asks to stop the command, on queue 0"
 -- what the line of a verb does
 abbrev pub about : Verb → List ℕ
 about Reserve = codes "reserves a command and its pages"
-about Fill = codes "writes the bytes of a Write or a Compare"
+about Fill = codes "writes the bytes of a Write, a Compare or a Deallocate"
 about CreateCq = codes "asks to make a completion half again, on queue 0"
 about Forge = codes "overwrites a completion slot"
 about Reset = codes "resets the controller: queue 0 alone is left"

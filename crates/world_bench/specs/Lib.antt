@@ -1,2 +1,3 @@
 pub mod BenchTables
+pub mod Collecting
 pub mod TouchingAll

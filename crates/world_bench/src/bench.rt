@@ -20,6 +20,7 @@ ghost use Rattle.step_core.specs.Rings.{ShowsHalves, TellsRung, TellsFetching, T
 ghost use Rattle.host_core.specs.Opening.{refusal_of_config, RefusesOpening};
 ghost use Rattle.step_core.specs.Opening.{opening_of};
 ghost use Rattle.step_core.specs.Touching.{LooksAtMost, StepTouches};
+ghost use Rattle.world_bench.specs.Collecting.{CollectsOnce};
 ghost use Rattle.world_bench.specs.TouchingAll.{TouchAll};
 
 use crate::bench_tables::BenchTables;
@@ -126,6 +127,7 @@ impl<A: Allocator + Copy> Bench<A> {
     pub fn step(&mut self, step: StepIn<A>) -> ReplyIn<A>
         ensures does { Does self.old.table step result self.new.table }
         ensures touches { StepTouches self.old.table.world.entries self.old.touches step result self.new.table self.new.touches }
+        ensures once { CollectsOnce self.old.table step result }
     {
         self.kept.step(step)
     }

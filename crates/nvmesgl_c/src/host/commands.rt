@@ -1,16 +1,16 @@
 //! The calls of a command, named by its queue and identifier.
 
-ghost use Rattle.std.specs.Prelude.{◌≡◌};
+ghost use Rattle.std.specs.Prelude.{◌≡◌, IfNone, IfSome};
 ghost use Rattle.nvmesgl_c.specs.HostKept.{kept_in};
-ghost use Rattle.nvmesgl_c.specs.HostCalls.{DoesKept, Says, Gathers};
+ghost use Rattle.nvmesgl_c.specs.HostCalls.{DoesKept, Says, Gathers, IsGatheredOf};
 ghost use Rattle.host_bench.specs.declared.call.Call.TheVariants as call;
 
 use crate::host::answer::told;
 use crate::host::calls::{make, say};
 use crate::host::code::code_of_reply;
 use crate::host::handle::Handle;
-use crate::words::Answer;
-use crate::words::code::TOO_SHORT;
+use crate::words::code::{DONE, TOO_SHORT};
+use crate::words::{Answer, gather_into, lay_in, nothing};
 use host_bench::{Call, Reply};
 use std::alloc::Global;
 
@@ -45,9 +45,29 @@ pub extern "C" fn nvmehost_fill(
     code_of_reply(&reply)
 }
 
-/// Gathers a Read's bytes into the front of a buffer.
-#[unsafe(no_mangle)]
-pub extern "C" fn nvmehost_gather(
+/// Gathers a Read's bytes to the front of a buffer, with no list between: how many they are. None, and nothing is written, where no such
+/// command is collected, the buffer is too short, or no host is kept.
+fn gather_from(
+    alloc: Global,
+    handle: &mut Handle,
+    q: u16,
+    cid: u16,
+    buffer: &mut [u8],
+) -> Option<usize>
+    ensures laid { IfSome result (λ count. IsGatheredOf (kept_in handle.old) q cid count buffer.old buffer.new) }
+    ensures same { kept_in handle.new ≡ kept_in handle.old }
+    ensures kept { IfNone result (buffer.new ≡ buffer.old) }
+{
+    let Ok(kept) = handle.take(alloc) else {
+        return None;
+    };
+    let count = gather_into(kept.bench.finished(q, cid), buffer);
+    handle.put(kept);
+    count
+}
+
+/// Gathers a Read's bytes as a list, and lays them at the front of a buffer where they fit.
+fn gather_listed(
     alloc: Global,
     handle: &mut Handle,
     q: u16,
@@ -60,13 +80,32 @@ pub extern "C" fn nvmehost_gather(
     let reply = make(alloc, handle, Call::Gather { q, cid });
     *answer = told(&reply);
     if let Ok(Reply::Gathered(bytes)) = &reply {
-        let bytes = bytes.as_slice();
-        if buffer.len() < bytes.len() {
+        if !lay_in(bytes.as_slice(), buffer) {
             return TOO_SHORT;
         }
-        buffer[..bytes.len()].copy_from_slice(bytes);
     }
     code_of_reply(&reply)
+}
+
+/// Gathers a Read's bytes into the front of a buffer. A list is made only where they were not laid: it says why, or how many they are.
+#[unsafe(no_mangle)]
+pub extern "C" fn nvmehost_gather(
+    alloc: Global,
+    handle: &mut Handle,
+    q: u16,
+    cid: u16,
+    buffer: &mut [u8],
+    answer: &mut Answer,
+) -> u32
+    ensures { Gathers (kept_in handle.old) q cid result buffer.old buffer.new answer.new (kept_in handle.new) }
+{
+    match gather_from(alloc, handle, q, cid, buffer) {
+        Some(bytes) => {
+            *answer = Answer { bytes, ..nothing() };
+            DONE
+        }
+        None => gather_listed(alloc, handle, q, cid, buffer, answer),
+    }
 }
 
 /// Lays a draft's chain.

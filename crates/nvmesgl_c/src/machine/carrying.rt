@@ -1,9 +1,12 @@
 //! A whole command, from its reservation to its release.
 
-ghost use Rattle.std.specs.Prelude.{◌≡◌, false, IfOk, IfErr, IfSome, IfNone};
+ghost use Rattle.std.specs.Prelude.{◌≡◌, false, IfOk, IfErr, IfSome, IfNone, OnErr};
+ghost use Rattle.nvmesgl_c.specs.MachineCarried.{IsCarried, IsLaid, brought_in, outcome_of};
 ghost use Rattle.nvmesgl_c.specs.MachineWhole as whole;
 ghost use Rattle.nvmesgl_c.specs.MachineWhole.{AllDone, FirstFails, Finishes, Goes, ReapsUntil, ComesOut, Carries, begin_steps, end_steps, submit_steps};
+ghost use Rattle.step_core.specs.Bench.{Does};
 ghost use Rattle.step_core.specs.declared.step.Reply.TheVariants as reply;
+ghost use Rattle.step_core.specs.declared.step.Step.TheVariants as step;
 
 use crate::machine::desk::Desk;
 use crate::machine::serve::serve;
@@ -12,6 +15,15 @@ use step_core::{Bytes, Hints, Reply, Request, Status, Step};
 
 /// The most completions that are reaped for a command: as many as a ring has.
 const MOST_REAPS: u32 = 1_024;
+
+/// What a Read brought.
+#[derive(Drop)]
+pub enum Brought {
+    /// So many bytes, at the front of the buffer.
+    Laid(usize),
+    /// These, as a list: the buffer is as it was.
+    Listed(Bytes),
+}
 
 /// How a whole command came out.
 #[derive(Drop)]
@@ -23,7 +35,7 @@ pub enum Carried {
         /// What was hinted at.
         hints: Hints,
         /// What a Read brought.
-        bytes: Bytes,
+        brought: Brought,
     },
     /// It was not reserved: what the reservation answered.
     NotReserved(Reply),
@@ -146,49 +158,101 @@ fn wait(desk: &mut Desk, q: u16, cid: u16)
     reap_until(desk, q, cid);
 }
 
-/// Collects a command that has ended, gathers its bytes, and releases it.
+/// Gathers what a collected command brought as a list.
 ///
 /// # Errors
 ///
-/// What the first step answered that was not done.
-fn finish(desk: &mut Desk, q: u16, cid: u16) -> Result<(Status, Hints, Bytes), Reply>
-    ensures finished { IfOk result (λ end. Finishes desk.old q cid end.0 end.1 end.2 desk.new) }
+/// What the step answered that was not done.
+fn list(desk: &mut Desk, q: u16, cid: u16) -> Result<Bytes, Reply>
+    ensures gathered { IfOk result (λ bytes. Does desk.old (step.Gather q cid) (reply.Gathered bytes) desk.new) }
+    ensures failed { IfErr result (λ why. Does desk.old (step.Gather q cid) why desk.new) }
+    ensures other { IfErr result (λ why. whole.is_gathered why ≡ false) }
+{
+    gathered(desk.step(Step::Gather { q, cid }))
+}
+
+/// Gathers what a collected command brought: to the front of a buffer where it fits, and else as a list.
+///
+/// # Errors
+///
+/// What the step answered that was not done; then nothing was laid.
+fn gather(desk: &mut Desk, q: u16, cid: u16, buffer: &mut [u8]) -> Result<Brought, Reply>
+    ensures gathered { IfOk result (λ brought. Does desk.old (step.Gather q cid) (reply.Gathered (brought_in brought buffer.new)) desk.new) }
+    ensures laid { IfOk result (λ brought. IsLaid brought buffer.old buffer.new) }
+    ensures failed { IfErr result (λ why. Does desk.old (step.Gather q cid) why desk.new) }
+    ensures other { IfErr result (λ why. whole.is_gathered why ≡ false) }
+    ensures kept { OnErr result (buffer.new ≡ buffer.old) }
+{
+    if let Some(count) = desk.gather_into(q, cid, buffer) {
+        return Ok(Brought::Laid(count));
+    }
+    Ok(Brought::Listed(list(desk, q, cid)?))
+}
+
+/// Collects a command that has ended, gathers its bytes, and releases it: once it is collected and gathered, its release is sure.
+///
+/// # Errors
+///
+/// What the first step answered that was not done; then nothing was laid.
+fn finish(
+    desk: &mut Desk,
+    q: u16,
+    cid: u16,
+    buffer: &mut [u8],
+) -> Result<(Status, Hints, Brought), Reply>
+    ensures finished { IfOk result (λ end. Finishes desk.old q cid end.0 end.1 (brought_in end.2 buffer.new) desk.new) }
+    ensures laid { IfOk result (λ end. IsLaid end.2 buffer.old buffer.new) }
     ensures failed { IfErr result (λ why. FirstFails desk.old (end_steps q cid) why desk.new) }
+    ensures kept { OnErr result (buffer.new ≡ buffer.old) }
 {
     let (status, hints) = collected(desk.step(Step::Collect { q, cid }))?;
-    let bytes = gathered(desk.step(Step::Gather { q, cid }))?;
+    let brought = gather(desk, q, cid, buffer)?;
     let released = desk.step(Step::Release { q, cid });
     if !is_accepted(&released) {
         return Err(released);
     }
-    Ok((status, hints, bytes))
+    Ok((status, hints, brought))
 }
 
-/// Carries a reserved command on to its release.
-fn carry_reserved(desk: &mut Desk, q: u16, cid: u16, bytes: Option<Bytes>) -> Carried
-    ensures { ComesOut desk.old q cid bytes result desk.new }
+/// Carries a reserved command on to its release. What a Read brought is laid at the front of the buffer, where it fits.
+fn carry_reserved(
+    desk: &mut Desk,
+    q: u16,
+    cid: u16,
+    bytes: Option<Bytes>,
+    buffer: &mut [u8],
+) -> Carried
+    ensures comes { ComesOut desk.old q cid bytes (outcome_of result buffer.new) desk.new }
+    ensures laid { IsCarried result buffer.old buffer.new }
 {
     if let Some(why) = begin(desk, q, cid, bytes) {
         drop(desk.step(Step::Cancel { q, cid }));
         return Carried::GivenUp(why);
     }
     wait(desk, q, cid);
-    match finish(desk, q, cid) {
-        Ok((status, hints, bytes)) => Carried::Ended {
+    match finish(desk, q, cid, buffer) {
+        Ok((status, hints, brought)) => Carried::Ended {
             status,
             hints,
-            bytes,
+            brought,
         },
         Err(why) => Carried::Left { cid, why },
     }
 }
 
-/// Carries a command from its reservation to its release.
-pub(crate) fn carry(desk: &mut Desk, q: u16, request: Request, bytes: Option<Bytes>) -> Carried
-    ensures { Carries desk.old q request bytes result desk.new }
+/// Carries a command from its reservation to its release. What a Read brought is laid at the front of the buffer, where it fits.
+pub(crate) fn carry(
+    desk: &mut Desk,
+    q: u16,
+    request: Request,
+    bytes: Option<Bytes>,
+    buffer: &mut [u8],
+) -> Carried
+    ensures carries { Carries desk.old q request bytes (outcome_of result buffer.new) desk.new }
+    ensures laid { IsCarried result buffer.old buffer.new }
 {
     match reserved(desk.step(Step::Reserve { q, request })) {
-        Ok(cid) => carry_reserved(desk, q, cid, bytes),
+        Ok(cid) => carry_reserved(desk, q, cid, bytes, buffer),
         Err(why) => Carried::NotReserved(why),
     }
 }

@@ -1,8 +1,8 @@
 //! The driver's calls of a command, named by its queue and identifier.
 
-ghost use Rattle.std.specs.Prelude.{◌≡◌, IfSome};
+ghost use Rattle.std.specs.Prelude.{◌≡◌, IfNone, IfSome};
 ghost use Rattle.nvmesgl_c.specs.MachineKept.{kept_in};
-ghost use Rattle.nvmesgl_c.specs.MachineCalls.{Says, SaysOrWants, Reserves, Gathers, looked_at};
+ghost use Rattle.nvmesgl_c.specs.MachineCalls.{Says, SaysOrWants, Reserves, Gathers, IsGatheredOf, looked_at};
 ghost use Rattle.nvmesgl_c.specs.Requests as requests;
 ghost use Rattle.step_core.specs.declared.step.Step.TheVariants as step;
 
@@ -10,8 +10,8 @@ use crate::machine::answer::told;
 use crate::machine::code::code_of_reply;
 use crate::machine::handle::Handle;
 use crate::machine::steps::{do_step, refuse, say};
-use crate::words::code::{MEMORY, TOO_SHORT};
-use crate::words::{Answer, CPiece, CRequest, asked_of, plain};
+use crate::words::code::{DONE, MEMORY, TOO_SHORT};
+use crate::words::{Answer, CPiece, CRequest, asked_of, lay_in, nothing, plain};
 use std::alloc::Global;
 use step_core::{Bytes, Reply, Step};
 
@@ -83,9 +83,29 @@ pub extern "C" fn nvmesgl_fill(
     say(alloc, handle, Step::Fill { q, cid, bytes }, answer)
 }
 
-/// Gathers a Read's bytes into the front of a buffer.
-#[unsafe(no_mangle)]
-pub extern "C" fn nvmesgl_gather(
+/// Gathers a Read's bytes to the front of a buffer, with no list between: how many they are. None, and nothing is written, where no such
+/// command is collected, the buffer is too short, or no bench is kept.
+fn gather_from(
+    alloc: Global,
+    handle: &mut Handle,
+    q: u16,
+    cid: u16,
+    buffer: &mut [u8],
+) -> Option<usize>
+    ensures laid { IfSome result (λ count. IsGatheredOf (kept_in handle.old) q cid count buffer.old buffer.new) }
+    ensures same { kept_in handle.new ≡ kept_in handle.old }
+    ensures kept { IfNone result (buffer.new ≡ buffer.old) }
+{
+    let Ok(desk) = handle.take(alloc) else {
+        return None;
+    };
+    let count = desk.gather_into(q, cid, buffer);
+    handle.put(desk);
+    count
+}
+
+/// Gathers a Read's bytes as a list, and lays them at the front of a buffer where they fit.
+fn gather_listed(
     alloc: Global,
     handle: &mut Handle,
     q: u16,
@@ -98,13 +118,32 @@ pub extern "C" fn nvmesgl_gather(
     let reply = do_step(alloc, handle, Step::Gather { q, cid });
     *answer = told(&reply);
     if let Ok(Reply::Gathered(bytes)) = &reply {
-        let bytes = bytes.as_slice();
-        if buffer.len() < bytes.len() {
+        if !lay_in(bytes.as_slice(), buffer) {
             return TOO_SHORT;
         }
-        buffer[..bytes.len()].copy_from_slice(bytes);
     }
     code_of_reply(&reply)
+}
+
+/// Gathers a Read's bytes into the front of a buffer. A list is made only where they were not laid: it says why, or how many they are.
+#[unsafe(no_mangle)]
+pub extern "C" fn nvmesgl_gather(
+    alloc: Global,
+    handle: &mut Handle,
+    q: u16,
+    cid: u16,
+    buffer: &mut [u8],
+    answer: &mut Answer,
+) -> u32
+    ensures { Gathers (kept_in handle.old) q cid result buffer.old buffer.new answer.new (kept_in handle.new) }
+{
+    match gather_from(alloc, handle, q, cid, buffer) {
+        Some(bytes) => {
+            *answer = Answer { bytes, ..nothing() };
+            DONE
+        }
+        None => gather_listed(alloc, handle, q, cid, buffer, answer),
+    }
 }
 
 /// Lays a draft's chain.

@@ -1,15 +1,18 @@
 //! A bench that ends where it is dropped.
 
-ghost use Rattle.std.specs.Prelude.{◌≡◌, IfOk, IfErr, IfNone, IsTrue, None};
-ghost use Rattle.machine_model.specs.Script.{table};
+ghost use Rattle.std.specs.Prelude.{◌≡◌, IfOk, IfErr, IfNone, IfSome, IsTrue, None};
+ghost use Rattle.machine_model.specs.Script.{finished_at, table};
+ghost use Rattle.nvmesgl_c.specs.Gathering.{IsGathered};
 ghost use Rattle.nvmesgl_c.specs.MachineLooks as looks;
 ghost use Rattle.nvmesgl_c.specs.MachineLooks.{FindsOwner};
 ghost use Rattle.step_core.specs.Bench.{Does};
+ghost use Rattle.world_bench.specs.Collecting.{CollectsOnce};
 ghost use Rattle.step_core.specs.Looks.{IsAtRest};
 ghost use Rattle.host_core.specs.Opening.{refusal_of_config, RefusesOpening};
 ghost use Rattle.step_core.specs.Opening.{opening_of};
 
 use crate::machine::looks::CCounts;
+use crate::words::gather_into;
 use std::alloc::Global;
 use std::marker::Model;
 use step_core::{Config, ControllerStep, Image, OpenRefused, Owner, PageNo, Reply, Step};
@@ -78,9 +81,18 @@ impl Desk {
         self.bench.next_step()
     }
 
+    /// Gathers what a collected command brought to the front of a buffer, as [`gather_into`] does.
+    pub fn gather_into(&self, q: u16, cid: u16, buffer: &mut [u8]) -> Option<usize>
+        ensures laid { IfSome result (λ count. IsGathered (finished_at q cid self.now.finished) count buffer.old buffer.new) }
+        ensures kept { IfNone result (buffer.new ≡ buffer.old) }
+    {
+        gather_into(self.bench.finished(q, cid), buffer)
+    }
+
     /// Does one step.
     pub fn step(&mut self, step: Step) -> Reply
-        ensures { Does self.old step result self.new }
+        ensures does { Does self.old step result self.new }
+        ensures once { CollectsOnce self.old step result }
     {
         self.bench.step(step)
     }

@@ -116,6 +116,17 @@ fn scatter(bytes: &[u8], buffers: &mut [CBuffer<'_>])
     }
 }
 
+/// Lays bytes at the front of a buffer, where there is room for all: whether there is.
+pub fn lay_in(bytes: &[u8], buffer: &mut [u8]) -> bool
+    ensures { LaidIn bytes.now result buffer.old buffer.new }
+{
+    if buffer.len() < bytes.len() {
+        return false;
+    }
+    buffer[..bytes.len()].copy_from_slice(bytes);
+    true
+}
+
 /// Lays bytes into buffers, one after the other, where there is room for all: whether there is.
 pub fn lay(bytes: &[u8], buffers: &mut [CBuffer<'_>]) -> bool
     ensures laid { LaidIn bytes.now result (joined_buffers buffers.old) (joined_buffers buffers.new) }

@@ -91,7 +91,7 @@ fn about(verb: Verb) -> &'static str
 {
     match verb {
         Verb::Reserve => "reserves a command and its pages",
-        Verb::Fill => "writes the bytes of a Write or a Compare",
+        Verb::Fill => "writes the bytes of a Write, a Compare or a Deallocate",
         Verb::CreateCq => "asks to make a completion half again, on queue 0",
         Verb::Forge => "overwrites a completion slot",
         Verb::Reset => "resets the controller: queue 0 alone is left",

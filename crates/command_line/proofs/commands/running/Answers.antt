@@ -1,10 +1,8 @@
-use Rattle.std.proofs.lemmas.Result.{IfOk-weaker}
-use Rattle.command_line.proofs.Asking.{added_command}
+use Rattle.command_line.proofs.Asking.{added_or_not}
 use Rattle.command_line.proofs.commands.running.Goals as goal
 
 pub returns : goal.returns
 returns c =
-    let one = added_command _ _ _ _ _ c.steps_command.ensures.shape c.steps_command.ensures.local c.in_ok-whole.ensures c.in_ok-program.ensures in
-    let two = added_command _ _ _ _ _ c.threads_command.ensures.shape c.threads_command.ensures.local c.in_ok-whole-2.ensures one in
-    IfOk-weaker c.with_command-3.result _ _
-    (λ new adds. added_command _ _ _ _ _ c.load_command.ensures.shape c.load_command.ensures.local adds two) c.with_command-3.ensures
+    let one = added_or_not _ _ c.with_command-whole.result _ _ c.steps_command.ensures.shape c.steps_command.ensures.local c.with_command-whole.ensures c.program.ensures in
+    let two = added_or_not _ _ c.with_command-whole-2.result _ _ c.threads_command.ensures.shape c.threads_command.ensures.local c.with_command-whole-2.ensures one in
+    added_or_not _ _ c.with_command.result _ _ c.load_command.ensures.shape c.load_command.ensures.local c.with_command.ensures two

@@ -4,10 +4,10 @@ use Rattle.command_line.proofs.commands.with_telling.Goals as goal
 
 pub returns-clause-shape : goal.returns-clause-shape
 returns-clause-shape c =
-    let json = added_shape _ _ _ _ _ c.in_ok-arg.ensures c.json_arg.ensures.local refl c.json_arg.ensures.rule in
-    IfOk-weaker c.arg-2.result _ _ (λ new adds. added_shape _ _ _ _ _ adds c.strict_arg.ensures.local json c.strict_arg.ensures.rule) c.arg-2.ensures
+    let json = added_shape _ _ _ _ _ c.in_ok-arg.ensures c.flag_arg.ensures.local refl c.flag_arg.ensures.rule in
+    IfOk-weaker c.arg-2.result _ _ (λ new adds. added_shape _ _ _ _ _ adds c.flag_arg-2.ensures.local json c.flag_arg-2.ensures.rule) c.arg-2.ensures
 
 pub returns-clause-local : goal.returns-clause-local
 returns-clause-local c =
-    let json = added_local _ _ _ _ c.in_ok-arg.ensures c.json_arg.ensures.local refl in
-    IfOk-weaker c.arg-2.result _ _ (λ new adds. added_local _ _ _ _ adds c.strict_arg.ensures.local json) c.arg-2.ensures
+    let json = added_local _ _ _ _ c.in_ok-arg.ensures c.flag_arg.ensures.local refl in
+    IfOk-weaker c.arg-2.result _ _ (λ new adds. added_local _ _ _ _ adds c.flag_arg-2.ensures.local json) c.arg-2.ensures

@@ -1,10 +1,12 @@
-use Rattle.std.proofs.Common.{rules, ◌≡◌, ◌<◌, [], ℕ, None, Some, false, length, slice_get, arith, ap, sym, ◌∙◌, subst}
+use Rattle.std.proofs.Common.{rules, ◌≡◌, ◌<◌, [], ℕ, List, None, Some, true, false, length, slice_get, arith, ap, sym, ◌∙◌, subst}
 use Rattle.page_memory.specs.Pages.{Pages}
 use Rattle.host_core.proofs.{Identifiers.host_of, Openings.{whole_at, step_at, stays_at, head-told}, QueueLists.{queue-at, completion-inside}}
 use Rattle.host_core.{proofs.Reaps.{looks, reaps-none}, specs.{Alone.{HostStep, IsOver}, Parts.tables_of, Reaping.lacks_completion, Tables.{Tables, view_of}}}
 use Rattle.host_core.specs.Whole.{IsWhole}
 use Rattle.machine_model.specs.Events as events
 use Rattle.machine_model.specs.declared.words.Reaped.TheVariants as found
+use Rattle.host_core.{proofs.Refusing.reap-refused, specs.Rows.Queue}
+use Rattle.machine_model.specs.declared.words.Refusal.TheVariants as refusal
 use Rattle.host_core.proofs.host.Host.reap.Goals as goal
 
 pub see-requires-clause-whole : goal.see-requires-clause-whole
@@ -55,3 +57,9 @@ returns g c =
       touches = search rules;
       over = subst (λ (pages : Pages). IsOver (view_of new) pages) (sym c.see.ensures.same) made.whole.over;
     }
+
+pub returns-then-has_no_completion-clause-step : goal.returns-then-has_no_completion-clause-step
+returns-then-has_no_completion-clause-step g c =
+    let t : Tables = tables_of c.self.inside.parts c.args.store.now.pages in
+    stays_at t c.args.self.now (events.Reap c.args.q) (events.Refused refusal.NoQueue []) c.self.view_is
+    (reap-refused t c.args.q (subst (λ (queues : List Queue). lacks_completion (slice_get queues c.args.q) ≡ true) c.deref.ensures.value (sym c.if-has_no_completion.ensures)))

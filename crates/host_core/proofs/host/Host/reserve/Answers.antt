@@ -71,3 +71,15 @@ returns g c =
       over = made.whole.over;
       back = tt;
     }
+
+pub commit_reserve-requires-clause-data_numbers : goal.commit_reserve-requires-clause-data_numbers
+commit_reserve-requires-clause-data_numbers g c = c.in-Ok-make_room.ensures.data_numbers
+
+pub commit_reserve-requires-clause-chain_numbers : goal.commit_reserve-requires-clause-chain_numbers
+commit_reserve-requires-clause-chain_numbers g c = c.in-Ok-make_room.ensures.chain_numbers
+
+pub commit_reserve-requires-clause-pages : goal.commit_reserve-requires-clause-pages
+commit_reserve-requires-clause-pages g c = c.in-Ok-make_room.ensures.pages
+
+pub commit_reserve-requires-clause-request : goal.commit_reserve-requires-clause-request
+commit_reserve-requires-clause-request g c = c.in-Ok-make_room.ensures.request

@@ -1,10 +1,11 @@
-use Rattle.std.proofs.Common.{rules, ◌≡◌, [], List, true, ap, sym, ◌∙◌, subst}
+use Rattle.std.proofs.Common.{rules, ◌≡◌, [], List, true, false, ap, sym, ◌∙◌, subst}
 use Rattle.machine_model.specs.Refusals.{is_deleted}
 use Rattle.page_memory.specs.Pages.{Pages}
 use Rattle.host_core.proofs.{Identifiers.host_of, Openings.{whole_at, step_at, stays_at}, Reaps.{retire-half, retire-made, retire-drained}}
 use Rattle.host_core.specs.{Alone.{HostStep, IsOver}, Commands.{passes, state_at}, Parts.tables_of, Rows.Queue, Tables.{Tables, view_of}, Whole.IsWhole}
 use Rattle.machine_model.specs.Events as events
 use Rattle.machine_model.specs.declared.words.Refusal.TheVariants as refusal
+use Rattle.host_core.proofs.Refusing.{retire-refused}
 use Rattle.host_core.proofs.host.Host.retire.Goals as goal
 
 pub see-requires-clause-whole : goal.see-requires-clause-whole
@@ -50,3 +51,10 @@ returns-in-None g c =
       touches = search rules;
       over = subst (λ (pages : Pages). IsOver (view_of new) pages) (sym c.see.ensures.same) made.whole.over;
     }
+
+pub returns-then-not-is_deleted-clause-step : goal.returns-then-not-is_deleted-clause-step
+returns-then-not-is_deleted-clause-step g c =
+    let t : Tables = tables_of c.self.inside.parts c.args.store.now.pages in
+    let other : passes is_deleted (state_at t.queues c.args.q) ≡ false =
+    ap (passes is_deleted) (sym (c.host_state.ensures ∙ ap (λ (qs : List Queue). state_at qs c.args.q) c.deref.ensures.value)) ∙ (sym c.is_deleted.ensures ∙ c.if-not-is_deleted.true) in
+    stays_at t c.args.self.now (events.Retire c.args.q) (events.Refused refusal.NotDeleted []) c.self.view_is (retire-refused t c.args.q other)

@@ -45,3 +45,6 @@ returns-in_default-2-clause-refused g c = λ pages whole.
       | in_default-2-via-in-Held+in_default w ↦ collect-stranger t c.args.q c.args.cid _ was w.in_default-2.not-Submitted-0 (not-held t c.args.q c.args.cid _ whole was (λ fits. rw w.in_default-2.is-1 at fits))
       | in_default-2-via-in_default w ↦ collect-stranger t c.args.q c.args.cid _ was w.in_default-2.not-Submitted-0 w.in_default-2.not-Held-0
     ]
+
+pub overflow_add-result : goal.overflow_add-result
+overflow_add-result g c = omega arith

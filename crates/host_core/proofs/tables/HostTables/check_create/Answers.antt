@@ -26,3 +26,6 @@ next_identifier-requires g c = omega arith
 
 pub is_queue_full-requires-clause-there : goal.is_queue_full-requires-clause-there
 is_queue_full-requires-clause-there g c = omega arith
+
+pub returns-in-Err-clause-refused : goal.returns-in-Err-clause-refused
+returns-in-Err-clause-refused g c = λ pages w vector. c.in-Err.ensures.refused pages vector

@@ -16,3 +16,6 @@ pub returns-clause-ready : goal.returns-clause-ready
 returns-clause-ready g c = λ pages w.
     let t : Tables = tables_of c.args.self.now pages in
     send-ready t c.args.kind c.deref.result.now c.in-Some.cid w c.requires.plain (c.in-Ok.ensures.free pages) c.deref.ensures.value c.in-Some.ensures (sym (c.if-is_queue_full.ensures pages))
+
+pub returns-in-Err-clause-refused : goal.returns-in-Err-clause-refused
+returns-in-Err-clause-refused g c = λ pages w. c.in-Err.ensures.refused pages

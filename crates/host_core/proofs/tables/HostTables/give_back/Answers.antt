@@ -11,3 +11,6 @@ returns-else-has_half g c = λ pages.
     let is : c.requires.queue ≡ c.index-queue.result.now = some_is (sym c.requires.at ∙ queue-at t c.args.q c.from.result c.index-queue.result.now inside c.from.ensures c.index-queue.ensures) in
     ap (λ (owners : List Owner). record (tables_of c.args.self.now pages) { owners = owners }) (sym (half-absent t c.args.q c.args.half c.requires
     (ap (λ (x : Queue). has_half c.args.half x.state) is ∙ (sym c.has_half.ensures ∙ c.if-has_half.false))))
+
+pub returns-then-has_half : goal.returns-then-has_half
+returns-then-has_half g c = λ pages. ap (λ (owners : List Owner). record (tables_of c.args.self.now pages) { owners = owners }) c.give_back_run.ensures

@@ -1,0 +1,10 @@
+use Rattle.std.{proofs.Common.ap, specs.Prelude.Some}
+use Rattle.clap.specs.Words.{Rule}
+use Rattle.command_line.proofs.parts.option_arg.Goals as goal
+
+pub returns-clause-rule : goal.returns-clause-rule
+returns-clause-rule c = rw (c.help.ensures, c.value_name.ensures, c.long.ensures)
+    (ap (λ (r : Rule). record r { long = Some c.args.name.now; value_names = 1 }) c.new.ensures.rule)
+
+pub returns-clause-local : goal.returns-clause-local
+returns-clause-local c = rw (c.help.ensures, c.value_name.ensures, c.long.ensures) c.new.ensures.optional.1
