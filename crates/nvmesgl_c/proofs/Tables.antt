@@ -1,5 +1,5 @@
 -- A table of regions as one number, which tells it.
-use Rattle.std.proofs.Common.{◌≡◌, ℕ, zero, suc, ◌+◌, ◌*◌, ◌<◌, List, [], ◌∷◌, refl, ap, arith}
+use Rattle.std.proofs.Common.{◌≡◌, ℕ, zero, suc, ◌<◌, List, [], ◌∷◌, refl, ap, arith}
 use Rattle.nvmesgl_c.specs.Regions.{Row, paired, number_of}
 
 pub same_pair : (a b c d : ℕ) → paired a b ≡ paired c d → (a ≡ c) × (b ≡ d)

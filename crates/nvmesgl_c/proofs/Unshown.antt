@@ -3,7 +3,7 @@ use Rattle.std.proofs.Common.{◌≡◌, inl, inr, ℕ, zero, suc, ◌+◌, ◌-
 use Rattle.std.{proofs.{Math.Path.fun_ext, lemmas.{Bool.{cases_lt, or_from, Decides.nat_tests}, List.{length-drop, length-take-le}, Option.{get_or_from_slice_get, slice_get_within}}}, specs.List.slice_get}
 use Rattle.page_memory.{proofs.Bytes.{written_before, written_after}, specs.{Memory.Memory, Pages.with_bytes}}
 use Rattle.nvmesgl_c.proofs.{Runs.{clash, clear_less, same_range, same_region}, Slices.wrote, Tables.{same_pair, some_pair}}
-use Rattle.nvmesgl_c.specs.Regions.{IsClear, IsRun, has_byte, hidden_among, hidden_in, hidden_of, is_past, paired, byte_number, bytes_number, lists_number}
+use Rattle.nvmesgl_c.specs.Regions.{IsClear, IsRun, has_byte, hidden_among, hidden_in, hidden_of, is_past, byte_number, bytes_number, lists_number}
 use Rattle.nvmesgl_c.specs.declared.words.region.{CRegion.CRegion, Run.Run}
 
 -- One region

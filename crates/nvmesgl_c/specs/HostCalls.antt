@@ -1,7 +1,7 @@
 -- What each call answers, and what it leaves of the host that a handle keeps.
-use Rattle.std.specs.Prelude.{◌≡◌, ◌⊎◌, ◌<◌, ◌++◌, ℕ, Result, Ok, Err, List, length, drop}
+use Rattle.std.specs.Prelude.{◌≡◌, ⊤, ◌⊎◌, ◌<◌, ◌++◌, ℕ, Result, Ok, Err, List, length, drop}
 use Rattle.machine_model.specs.Script.{finished_at}
-use Rattle.nvmesgl_c.specs.{Answers.nothing, Gathering.IsGathered, HostAnswers.{bell_of, told}, HostCodes.code_of_reply, HostKept.{Kept, code_in}}
+use Rattle.nvmesgl_c.specs.{Answers.nothing, Gathering.{IsGathered, IsUngathered}, HostAnswers.{bell_of, told}, HostCodes.code_of_reply, HostKept.{Kept, code_in}}
 use Rattle.nvmesgl_c.specs.declared.{host.answer.CDoorbell.CDoorbell, words.answer.Answer.Answer}
 use Rattle.host_bench.specs.{Calls.Does, Values.{Call, Reply}}
 use Rattle.host_bench.specs.declared.call.Reply.TheVariants as reply
@@ -49,3 +49,8 @@ pub record Gathers (t : Kept) (q cid code : ℕ) (old buffer : List ℕ) (answer
 abbrev pub IsGatheredOf : Kept → ℕ → ℕ → ℕ → List ℕ → List ℕ → Type 0
 IsGatheredOf (Err h) q cid count old buffer = ⊥
 IsGatheredOf (Ok t) q cid count old buffer = IsGathered (finished_at q cid t.bench.finished) count old buffer
+
+-- there is no such command, or what it brought does not fit so many bytes
+abbrev pub IsUngatheredOf : Kept → ℕ → ℕ → ℕ → Type 0
+IsUngatheredOf (Err h) q cid room = ⊤
+IsUngatheredOf (Ok t) q cid room = IsUngathered (finished_at q cid t.bench.finished) room

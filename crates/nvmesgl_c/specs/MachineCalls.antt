@@ -1,8 +1,8 @@
 -- What each call answers, and what it leaves of the bench that a handle keeps.
-use Rattle.std.specs.Prelude.{◌≡◌, ◌⊎◌, ◌<◌, ◌++◌, ℕ, Result, Ok, Err, List, length, drop, take}
+use Rattle.std.specs.Prelude.{◌≡◌, ⊤, ◌⊎◌, ◌<◌, ◌++◌, ℕ, Result, Ok, Err, List, length, drop, take}
 use Rattle.io_commands.specs.Asked.{Request}
 use Rattle.machine_model.specs.Script.{finished_at}
-use Rattle.nvmesgl_c.specs.{Answers.nothing, Gathering.IsGathered, MachineAnswers.told, MachineCodes.code_of_reply, MachineKept.{Kept, code_in}, Requests.{asked_of, IsMade}}
+use Rattle.nvmesgl_c.specs.{Answers.nothing, Gathering.{IsGathered, IsUngathered}, MachineAnswers.told, MachineCodes.code_of_reply, MachineKept.{Kept, code_in}, Requests.{asked_of, IsMade}}
 use Rattle.nvmesgl_c.specs.declared.words.{answer.Answer.Answer, asked.CRequest.CRequest, piece.CPiece.CPiece}
 use Rattle.step_core.specs.{Bench.Does, Values.{Step, Reply}}
 use Rattle.nvmesgl_c.specs.Requests as requests
@@ -62,3 +62,8 @@ pub record Gathers (t : Kept) (q cid code : ℕ) (old buffer : List ℕ) (answer
 abbrev pub IsGatheredOf : Kept → ℕ → ℕ → ℕ → List ℕ → List ℕ → Type 0
 IsGatheredOf (Err h) q cid count old buffer = ⊥
 IsGatheredOf (Ok t) q cid count old buffer = IsGathered (finished_at q cid t.finished) count old buffer
+
+-- there is no such command, or what it brought does not fit so many bytes
+abbrev pub IsUngatheredOf : Kept → ℕ → ℕ → ℕ → Type 0
+IsUngatheredOf (Err h) q cid room = ⊤
+IsUngatheredOf (Ok t) q cid room = IsUngathered (finished_at q cid t.finished) room

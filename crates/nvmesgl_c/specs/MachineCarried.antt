@@ -1,6 +1,7 @@
 -- How a call has what a whole command came to: the bytes of a Read stand at the front of its buffer, or are a list.
-use Rattle.std.specs.Prelude.{◌≡◌, ◌⊎◌, ◌++◌, ◌<◌, ◌≤◌, ℕ, Option, Some, None, Result, Ok, Err, List, drop, length, take}
-use Rattle.nvmesgl_c.specs.{Answers.{nothing, collected}, MachineAnswers.told_of, MachineCodes.code_of_answer, MachineWhole.Outcome, declared.words.answer.Answer.Answer}
+use Rattle.std.specs.Prelude.{◌≡◌, ⊤, ◌⊎◌, ◌++◌, ◌<◌, ◌≤◌, ℕ, Option, Some, None, Result, Ok, Err, List, [], drop, length, take}
+use Rattle.io_commands.specs.Values.{FinishedContents}
+use Rattle.nvmesgl_c.specs.{Answers.{nothing, collected}, Gathering.IsUngathered, MachineWhole.Outcome, declared.words.answer.Answer.Answer}
 use Rattle.nvmesgl_c.specs.declared.machine.carrying.{Brought.{Brought, TheVariants.{Laid, Listed}}, Carried.{Carried, TheVariants.{Ended, NotReserved, GivenUp, Left}}}
 use Rattle.nvmesgl_c.specs.MachineWhole as whole
 
@@ -17,6 +18,11 @@ count_of (Listed bytes) = length bytes
 abbrev pub IsLaid : Brought → List ℕ → List ℕ → Type 0
 IsLaid (Laid count) old buffer = (count ≤ length old) × (count ≤ length buffer) × (buffer ≡ take count buffer ++ drop count old)
 IsLaid (Listed bytes) old buffer = buffer ≡ old
+
+-- there is a list only where what the command brought does not fit
+abbrev pub IsListedFor : Option FinishedContents → ℕ → Brought → Type 0
+IsListedFor finished room (Laid count) = ⊤
+IsListedFor finished room (Listed bytes) = IsUngathered finished room
 
 abbrev pub IsCarried : Carried → List ℕ → List ℕ → Type 0
 IsCarried (Ended status hints brought) old buffer = IsLaid brought old buffer
@@ -40,20 +46,14 @@ outcome_kept (Err code) buffer = Err code
 -- what C is told of it
 
 abbrev pub code_of_carried : Carried → ℕ
-code_of_carried (Ended status hints brought) = 0
-code_of_carried (NotReserved why) = code_of_answer why
-code_of_carried (GivenUp why) = code_of_answer why
-code_of_carried (Left cid why) = code_of_answer why
+code_of_carried carried = whole.code_of_carried (outcome_of carried [])
 
 abbrev pub told_carried : Carried → Answer
 told_carried (Ended status hints brought) = record (collected status hints) { bytes = count_of brought }
-told_carried (NotReserved why) = told_of why
-told_carried (GivenUp why) = told_of why
-told_carried (Left cid why) = record nothing { state = 11; cid = cid }
+told_carried carried = whole.told_carried (outcome_of carried [])
 
 abbrev pub code_of : Result Carried ℕ → ℕ
-code_of (Err code) = code
-code_of (Ok carried) = code_of_carried carried
+code_of carried = whole.code_of (outcome_kept carried [])
 
 abbrev pub told_of_kept : Result Carried ℕ → Answer
 told_of_kept (Err code) = nothing

@@ -1,8 +1,8 @@
 //! The calls of a command, named by its queue and identifier.
 
-ghost use Rattle.std.specs.Prelude.{◌≡◌, IfNone, IfSome};
+ghost use Rattle.std.specs.Prelude.{◌≡◌, IfNone, IfSome, length};
 ghost use Rattle.nvmesgl_c.specs.HostKept.{kept_in};
-ghost use Rattle.nvmesgl_c.specs.HostCalls.{DoesKept, Says, Gathers, IsGatheredOf};
+ghost use Rattle.nvmesgl_c.specs.HostCalls.{DoesKept, Says, Gathers, IsGatheredOf, IsUngatheredOf};
 ghost use Rattle.host_bench.specs.declared.call.Call.TheVariants as call;
 
 use crate::host::answer::told;
@@ -57,6 +57,7 @@ fn gather_from(
     ensures laid { IfSome result (λ count. IsGatheredOf (kept_in handle.old) q cid count buffer.old buffer.new) }
     ensures same { kept_in handle.new ≡ kept_in handle.old }
     ensures kept { IfNone result (buffer.new ≡ buffer.old) }
+    ensures unlaid { IfNone result (IsUngatheredOf (kept_in handle.old) q cid (length buffer.old)) }
 {
     let Ok(kept) = handle.take(alloc) else {
         return None;

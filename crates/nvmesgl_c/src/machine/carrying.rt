@@ -1,7 +1,8 @@
 //! A whole command, from its reservation to its release.
 
-ghost use Rattle.std.specs.Prelude.{◌≡◌, false, IfOk, IfErr, IfSome, IfNone, OnErr};
-ghost use Rattle.nvmesgl_c.specs.MachineCarried.{IsCarried, IsLaid, brought_in, outcome_of};
+ghost use Rattle.std.specs.Prelude.{◌≡◌, false, IfOk, IfErr, IfSome, IfNone, OnErr, length};
+ghost use Rattle.machine_model.specs.Script.{finished_at};
+ghost use Rattle.nvmesgl_c.specs.MachineCarried.{IsCarried, IsLaid, IsListedFor, brought_in, outcome_of};
 ghost use Rattle.nvmesgl_c.specs.MachineWhole as whole;
 ghost use Rattle.nvmesgl_c.specs.MachineWhole.{AllDone, FirstFails, Finishes, Goes, ReapsUntil, ComesOut, Carries, begin_steps, end_steps, submit_steps};
 ghost use Rattle.step_core.specs.Bench.{Does};
@@ -179,6 +180,7 @@ fn list(desk: &mut Desk, q: u16, cid: u16) -> Result<Bytes, Reply>
 fn gather(desk: &mut Desk, q: u16, cid: u16, buffer: &mut [u8]) -> Result<Brought, Reply>
     ensures gathered { IfOk result (λ brought. Does desk.old (step.Gather q cid) (reply.Gathered (brought_in brought buffer.new)) desk.new) }
     ensures laid { IfOk result (λ brought. IsLaid brought buffer.old buffer.new) }
+    ensures listed { IfOk result (λ brought. IsListedFor (finished_at q cid desk.old.finished) (length buffer.old) brought) }
     ensures failed { IfErr result (λ why. Does desk.old (step.Gather q cid) why desk.new) }
     ensures other { IfErr result (λ why. whole.is_gathered why ≡ false) }
     ensures kept { OnErr result (buffer.new ≡ buffer.old) }

@@ -1,8 +1,8 @@
 //! The driver's calls of a command, named by its queue and identifier.
 
-ghost use Rattle.std.specs.Prelude.{◌≡◌, IfNone, IfSome};
+ghost use Rattle.std.specs.Prelude.{◌≡◌, IfNone, IfSome, length};
 ghost use Rattle.nvmesgl_c.specs.MachineKept.{kept_in};
-ghost use Rattle.nvmesgl_c.specs.MachineCalls.{Says, SaysOrWants, Reserves, Gathers, IsGatheredOf, looked_at};
+ghost use Rattle.nvmesgl_c.specs.MachineCalls.{Says, SaysOrWants, Reserves, Gathers, IsGatheredOf, IsUngatheredOf, looked_at};
 ghost use Rattle.nvmesgl_c.specs.Requests as requests;
 ghost use Rattle.step_core.specs.declared.step.Step.TheVariants as step;
 
@@ -95,6 +95,7 @@ fn gather_from(
     ensures laid { IfSome result (λ count. IsGatheredOf (kept_in handle.old) q cid count buffer.old buffer.new) }
     ensures same { kept_in handle.new ≡ kept_in handle.old }
     ensures kept { IfNone result (buffer.new ≡ buffer.old) }
+    ensures unlaid { IfNone result (IsUngatheredOf (kept_in handle.old) q cid (length buffer.old)) }
 {
     let Ok(desk) = handle.take(alloc) else {
         return None;

@@ -1,8 +1,8 @@
 //! A bench that ends where it is dropped.
 
-ghost use Rattle.std.specs.Prelude.{◌≡◌, IfOk, IfErr, IfNone, IfSome, IsTrue, None};
+ghost use Rattle.std.specs.Prelude.{◌≡◌, IfOk, IfErr, IfNone, IfSome, IsTrue, None, length};
 ghost use Rattle.machine_model.specs.Script.{finished_at, table};
-ghost use Rattle.nvmesgl_c.specs.Gathering.{IsGathered};
+ghost use Rattle.nvmesgl_c.specs.Gathering.{IsGathered, IsUngathered};
 ghost use Rattle.nvmesgl_c.specs.MachineLooks as looks;
 ghost use Rattle.nvmesgl_c.specs.MachineLooks.{FindsOwner};
 ghost use Rattle.step_core.specs.Bench.{Does};
@@ -85,6 +85,7 @@ impl Desk {
     pub fn gather_into(&self, q: u16, cid: u16, buffer: &mut [u8]) -> Option<usize>
         ensures laid { IfSome result (λ count. IsGathered (finished_at q cid self.now.finished) count buffer.old buffer.new) }
         ensures kept { IfNone result (buffer.new ≡ buffer.old) }
+        ensures unlaid { IfNone result (IsUngathered (finished_at q cid self.now.finished) (length buffer.old)) }
     {
         gather_into(self.bench.finished(q, cid), buffer)
     }

@@ -30,22 +30,6 @@ fn lay_read(carried: &Result<Carried, u32>, buffers: &mut [CBuffer<'_>]) -> u32
     code_of(carried)
 }
 
-/// Carries a Read into one buffer.
-fn read_alone(
-    alloc: Global,
-    handle: &mut Handle,
-    q: u16,
-    slba: u64,
-    buffer: &mut CBuffer<'_>,
-    answer: &mut Answer,
-) -> u32
-    ensures does { Brings (kept_in handle.old) q slba buffer.old.bytes.now buffer.new.bytes.now result answer.new (kept_in handle.new) ⊎ IsTurnedAwayFrom buffer.old.bytes.now buffer.new.bytes.now (kept_in handle.old) result answer.new (kept_in handle.new) }
-    ensures long { length buffer.new.bytes.now ≡ length buffer.old.bytes.now }
-    ensures place { buffer.new.bytes.ghost_name ≡ buffer.old.bytes.ghost_name }
-{
-    nvmesgl_read(alloc, handle, q, slba, buffer.bytes, answer)
-}
-
 /// Carries a Read into several buffers. Its bytes are gathered as a list first.
 fn read_parts(
     alloc: Global,
@@ -86,7 +70,7 @@ pub extern "C" fn nvmesgl_readv(
     ensures places { places_of buffers.new ≡ places_of buffers.old }
 {
     if buffers.len() == 1 {
-        return read_alone(alloc, handle, q, slba, &mut buffers[0], answer);
+        return nvmesgl_read(alloc, handle, q, slba, buffers[0].bytes, answer);
     }
     read_parts(alloc, handle, q, slba, buffers, answer)
 }

@@ -1,8 +1,8 @@
 //! What a collected command brought, at the front of a buffer of C's.
 
-ghost use Rattle.std.specs.Prelude.{◌≡◌, IfNone, IfSome};
+ghost use Rattle.std.specs.Prelude.{◌≡◌, IfNone, IfSome, length};
 ghost use Rattle.std.specs.Option.{option_copied};
-ghost use Rattle.nvmesgl_c.specs.Gathering.{IsGathered};
+ghost use Rattle.nvmesgl_c.specs.Gathering.{IsGathered, IsUngathered};
 
 use io_commands::Finished;
 
@@ -11,6 +11,7 @@ use io_commands::Finished;
 pub fn gather_into(finished: Option<&Finished>, buffer: &mut [u8]) -> Option<usize>
     ensures laid { IfSome result (λ count. IsGathered (option_copied finished.entry) count buffer.old buffer.new) }
     ensures kept { IfNone result (buffer.new ≡ buffer.old) }
+    ensures unlaid { IfNone result (IsUngathered (option_copied finished.entry) (length buffer.old)) }
 {
     finished?.gather_into(buffer).ok()
 }

@@ -1,4 +1,4 @@
-use Rattle.std.proofs.Common.{◌≡◌, ℕ, ◌<◌, ◌≤◌, ◌+◌, ◌-◌, length, take}
+use Rattle.std.proofs.Common.{◌≡◌, ◌≤◌, ◌-◌, length, take}
 use Rattle.page_memory.specs.Memory.{written}
 use Rattle.nvmesgl_c.specs.Regions.{byte_in, hidden_in, table_of}
 use Rattle.nvmesgl_c.proofs.words.region.copy_to.Given as goal

@@ -1,4 +1,4 @@
-use Rattle.std.proofs.Common.{◌≡◌, ℕ, ◌<◌, ◌≤◌, ◌+◌, ◌-◌}
+use Rattle.std.proofs.Common.{ℕ, ◌<◌, ◌≤◌, ◌+◌, ◌-◌}
 use Rattle.std.specs.Prelude.{IsSome}
 use Rattle.nvmesgl_c.specs.Regions.{byte_in}
 use Rattle.nvmesgl_c.proofs.words.region.is_there.Given as goal
