@@ -1,10 +1,9 @@
 //! A heap that refuses on purpose, and what opens in it.
 
 use std::alloc::{Allocator, Global};
-use std::test::Fail;
+use std::process::Abort;
 use step_core::Image;
 use test_support::Refusing;
-use world_bench::Bench;
 
 /// A heap that refuses on purpose.
 pub(crate) type Heap = Refusing<Global>;
@@ -13,14 +12,9 @@ pub(crate) type Heap = Refusing<Global>;
 pub(crate) const MANY: u64 = 5_000;
 
 /// An image of 64 zero blocks.
-pub(crate) fn zeros<A: Allocator>(alloc: A) -> Result<Image<A>, Fail> {
+pub(crate) fn zeros<A: Allocator, R: Abort>(rt: &R, alloc: A) -> Image<A> {
     match Image::zeroed(alloc, 64) {
-        Ok(image) => Ok(image),
-        Err(_) => Err(Fail::from("no image")),
+        Ok(image) => image,
+        Err(_) => panic!(rt; "no image"),
     }
-}
-
-/// Ends a bench.
-pub(crate) fn end<A: Allocator + Copy>(bench: Bench<A>) {
-    let _ended = bench.end();
 }

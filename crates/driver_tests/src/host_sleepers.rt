@@ -1,8 +1,10 @@
 //! A thread sleeps over a host under a lock, and a call wakes it: each call by whose name others are told.
 
-use crate::shared_hosts::reserved;
+use crate::looks::comes;
+use driver_threads::Job;
 use entry_codec::{ComEntry, Hints, Status};
 use host_bench::{Call, Config, HostBench, Kind, Reply};
+use session_scripts::desk::runs::job;
 use shared::{Change, Changes, Shared};
 use std::alloc::Global;
 use std::process::Abort;
@@ -23,11 +25,8 @@ const CONFIG: Config = Config {
 /// How many milliseconds the thread has until it sleeps. Where that is too short nothing comes out otherwise.
 const ASLEEP: u64 = 50;
 
-/// How many milliseconds it has until it is back.
-const PATIENCE: u32 = 10_000;
-
 /// What is done with the host. Commands are of queue 1 and have identifier 0, as admin commands of queue 0 have.
-#[derive(Clone, Copy, Debug)]
+#[derive(Clone, Copy)]
 enum Deed {
     /// A Read of one block.
     Reserve,
@@ -99,7 +98,7 @@ const HALF_MADE: [Deed; 5] = [
 const END: Change = Change::Ended { place: 1 };
 
 /// Each call that others are told of, with each change that it may make.
-const WAKINGS: [Waking; 17] = [
+const WAKINGS: [Waking; 18] = [
     (&[Deed::Reserve], Change::Room, Deed::Cancel),
     (&FINISHED, Change::Room, Deed::Release),
     (&[], Change::Room, Deed::DeleteSq),
@@ -116,6 +115,7 @@ const WAKINGS: [Waking; 17] = [
     (&RUNG, Change::Room, Deed::Reset),
     (&RUNG, Change::Rung, Deed::Reset),
     (&RUNG, Change::Posted, Deed::Reset),
+    (&RUNG, Change::Posted, Deed::Complete(1)),
     (&RUNG, END, Deed::Reset),
 ];
 
@@ -143,15 +143,20 @@ fn complete<R: Abort>(rt: &R, bench: &mut HostBench, q: u16) {
 /// Does something with the host, which must not be refused.
 fn make<R: Abort + Wait>(rt: &R, alloc: Global, shared: &Shared<HostBench>, deed: Deed) {
     let call = match deed {
-        Deed::Reserve => {
-            let cid = shared.with(rt, Changes::NONE, (), |bench, ()| {
-                reserved(rt, alloc, bench, Kind::Read, 0)
-            });
-            assert!(rt; cid == 0);
-            return;
-        }
+        Deed::Reserve => match job(alloc, 1, Kind::Read, 0, 1, &[]) {
+            Ok(
+                Job {
+                    q,
+                    request,
+                    bytes: _,
+                },
+            ) => Call::Reserve { q, request },
+            Err(_) => panic!(rt; "no memory"),
+        },
         Deed::Complete(q) => {
-            shared.with(rt, Changes::NONE, (), |bench, ()| complete(rt, bench, q));
+            let mut locked = shared.lock(rt);
+            complete(rt, &mut locked.machine, q);
+            shared.leave(locked, Changes::NONE);
             return;
         }
         Deed::Build => Call::Build { q: 1, cid: 0 },
@@ -171,18 +176,7 @@ fn make<R: Abort + Wait>(rt: &R, alloc: Global, shared: &Shared<HostBench>, deed
         shared.call(rt, call),
         Reply::Refused(_) | Reply::NoValue | Reply::NotFilled(_)
     );
-    assert!(rt; !refused, "{deed:?} is refused");
-}
-
-/// Waits until a thread has come so far. False where it does not.
-fn comes<R: Clock>(rt: &R, so_far: &AtomicBool) -> bool {
-    for _ in 0..PATIENCE {
-        if so_far.load(Ordering::SeqCst) {
-            return true;
-        }
-        thread::sleep(rt, Duration::from_millis(1));
-    }
-    false
+    assert!(rt; !refused, "it is refused");
 }
 
 /// Sleeps until a change is told once the call is going to be made, and says that it is back.
@@ -203,9 +197,13 @@ fn sleep<R: Wait>(
     );
 }
 
-/// Sees that a thread sleeps until a call is made, and that the call wakes it.
-fn see_woken<R: Abort + Clock + Threads + Wait + Sync>(rt: &R, alloc: Global, waking: &Waking) {
-    let (before, change, call) = *waking;
+/// Sees that a thread which waits for a change sleeps until a call is made, and that the call wakes it. Once the workers are told to stop nobody sleeps.
+fn see_woken<R: Abort + Clock + Threads + Wait + Sync>(
+    rt: &R,
+    alloc: Global,
+    (before, change, call): Waking,
+    place: usize,
+) {
     let Ok(bench) = HostBench::open(alloc, CONFIG) else {
         panic!(rt; "no host");
     };
@@ -227,12 +225,15 @@ fn see_woken<R: Abort + Clock + Threads + Wait + Sync>(rt: &R, alloc: Global, wa
         sleeper.join(rt);
         woken
     });
-    assert!(rt; woken, "{call:?} woke nobody");
+    called.store(false, Ordering::SeqCst);
+    sleep(rt, &shared, change, &called, &back);
+    assert!(rt; woken, "waking {place}: the call woke nobody");
+    drop(shared.end());
 }
 
 #[test]
 fn each_call_of_a_host_wakes_who_waits_for_it(rt: HostRuntime) {
-    for waking in &WAKINGS {
-        see_woken(&rt, rt.alloc(), waking);
+    for (place, waking) in WAKINGS.iter().enumerate() {
+        see_woken(&rt, rt.alloc(), *waking, place);
     }
 }

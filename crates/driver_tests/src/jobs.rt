@@ -1,169 +1,116 @@
-//! Runs whose jobs are told one by one: two submitters that meet at gates, a closed gate, and a command of the longest list, in segments of two
-//! descriptors.
-
-ghost use Rattle.std.specs.Prelude.{◌≡◌, ◌≤◌, vec_len, IfOk};
+//! Jobs that submitters do over and over, and how they must end.
 
 use crate::looks::see;
-use crate::part::USUAL;
-use driver_threads::{Gate, GateClosed, Job, Open, Point, RunFault};
+use driver_threads::{Job, JobEnd, JobRefusal};
 use entry_codec::Status;
 use io_commands::Kind;
-use session_scripts::desk::runs::{Outcome, is_done, job, play};
-use session_scripts::desk::two_submitters::{
-    ON_ONE_QUEUE, is_as_wanted, two_lists, writes_and_reads,
-};
+use session_scripts::desk::runs::job;
 use std::alloc::{AllocError, Global};
 use std::process::Abort;
-use std::sync::Wait;
-use std::sync::atomic::{AtomicBool, Ordering};
-use std::test::Fail;
-use std::thread;
-use std::thread::Threads;
-use step_core::Config;
 
-/// Holds the first job of each of two submitters at a point until the other is there.
-#[derive(Drop)]
-struct Meeting {
-    point: Point,
-    first: AtomicBool,
-    second: AtomicBool,
+/// A job on a queue, of so many blocks, each in a piece of its own.
+#[derive(Clone, Copy)]
+pub(crate) struct Asked {
+    pub(crate) q: u16,
+    pub(crate) kind: Kind,
+    /// The first block of the first submitter.
+    pub(crate) slba: u64,
+    /// How many blocks further that of each other submitter is. At 0 all submitters have the same blocks.
+    pub(crate) apart: u64,
+    pub(crate) blocks: u32,
+    /// The byte of which its blocks are full. Where submitters have blocks of their own, it is this one in the first round of the first of them.
+    pub(crate) byte: u8,
+    /// How many such bytes it brings.
+    pub(crate) brings: usize,
+    pub(crate) end: Wanted,
+    /// How many entries the log has of it: 8 of a command and those of its walk.
+    pub(crate) entries: usize,
 }
 
-impl Meeting {
-    fn new(point: Point) -> Self {
-        Meeting {
-            point,
-            first: AtomicBool::new(false),
-            second: AtomicBool::new(false),
+/// How a job ends.
+#[derive(Clone, Copy)]
+pub(crate) enum Wanted {
+    /// With a status, and so many such bytes.
+    Done(Status, usize),
+    /// It is refused.
+    Refused(JobRefusal),
+}
+
+impl Asked {
+    /// The byte of which its blocks are full in this round of a submitter.
+    fn byte(&self, worker: u8, round: u8) -> u8 {
+        if self.apart == 0 {
+            self.byte
+        } else {
+            let first = self.byte.wrapping_add(worker.wrapping_mul(16));
+            first.wrapping_add(round % 16)
         }
     }
-}
 
-impl Gate for Meeting {
-    fn at(&self, worker: u16, point: Point) -> Result<(), GateClosed> {
-        let (mine, other) = if worker == 0 {
-            (&self.first, &self.second)
-        } else {
-            (&self.second, &self.first)
-        };
-        if point != self.point || mine.swap(true, Ordering::SeqCst) {
-            return Ok(());
-        }
-        for _ in 0..10_000_000u32 {
-            if other.load(Ordering::SeqCst) {
-                return Ok(());
+    /// Whether it ended as is wanted in this round of a submitter.
+    fn is_end(&self, end: &JobEnd, worker: u8, round: u8) -> bool {
+        match (self.end, end) {
+            (Wanted::Done(wanted, length), JobEnd::Done { status, bytes }) => {
+                let byte = self.byte(worker, round);
+                for one in bytes.as_slice() {
+                    if *one != byte {
+                        return false;
+                    }
+                }
+                *status == wanted && bytes.as_slice().len() == length
             }
-            thread::yield_now();
-        }
-        Err(GateClosed)
-    }
-}
-
-/// A gate that is closed to two workers.
-struct Closed;
-
-impl Gate for Closed {
-    fn at(&self, worker: u16, point: Point) -> Result<(), GateClosed> {
-        if worker > 0 && point == Point::Released {
-            Err(GateClosed)
-        } else {
-            Ok(())
+            (Wanted::Refused(wanted), JobEnd::Refused(why)) => *why == wanted,
+            _ => false,
         }
     }
 }
 
-/// Two submitters on one queue, with a gate.
-fn two_submitters<G: Gate + Sync, R: Threads + Wait + Sync>(
-    rt: &R,
-    alloc: Global,
-    gate: &G,
-) -> Result<Outcome, Fail> {
-    Ok(play(rt, alloc, USUAL, 64, two_lists(alloc, ON_ONE_QUEUE)?, gate)?)
-}
-
-#[test]
-fn two_submitters_meet_once_reserved(rt: HostRuntime) -> Result<(), Fail> {
-    let outcome = two_submitters(&rt, rt.alloc(), &Meeting::new(Point::Reserved))?;
-    assert!(rt; is_as_wanted(&outcome));
-    Ok(())
-}
-
-#[test]
-fn two_submitters_meet_once_submitted(rt: HostRuntime) -> Result<(), Fail> {
-    let outcome = two_submitters(&rt, rt.alloc(), &Meeting::new(Point::Submitted))?;
-    assert!(rt; is_as_wanted(&outcome));
-    Ok(())
-}
-
-/// A run that must not end well: why.
-fn fault_of<G: Gate + Sync, R: Threads + Wait + Sync + Abort>(
-    rt: &R,
-    alloc: Global,
-    jobs: Vec<Vec<Job>>,
-    gate: &G,
-) -> RunFault
-    requires some { 1 ≤ vec_len jobs }
-    requires few { vec_len jobs ≤ 16 }
-{
-    match play(rt, alloc, USUAL, 64, jobs, gate) {
-        Ok(_) => panic!(rt; "it ended well"),
-        Err(fault) => fault,
-    }
-}
-
-/// The jobs of three submitters on one queue.
-fn three_lists(alloc: Global) -> Result<Vec<Vec<Job>>, AllocError>
-    ensures { IfOk result (λ lists. vec_len lists ≡ 3) }
-{
-    let mut lists = Vec::new(alloc);
-    lists.push(writes_and_reads(alloc, 1, 0, 0)?)?;
-    lists.push(writes_and_reads(alloc, 1, 8, 0)?)?;
-    lists.push(writes_and_reads(alloc, 1, 16, 0)?)?;
-    Ok(lists)
-}
-
-#[test]
-fn a_closed_gate_is_told(rt: HostRuntime) -> Result<(), Fail> {
-    let jobs = three_lists(rt.alloc())?;
-    let fault = fault_of(&rt, rt.alloc(), jobs, &Closed);
-    see(&rt, &fault, &RunFault::GateClosed { worker: 1 });
-    Ok(())
-}
-
-/// One Read of the longest list that a command may have.
-fn longest(alloc: Global) -> Result<Vec<Vec<Job>>, AllocError>
-    ensures { IfOk result (λ lists. vec_len lists ≡ 1) }
-{
+/// The jobs of a submitter.
+fn jobs_of(alloc: Global, asked: &[Asked], worker: u8, rounds: u8) -> Result<Vec<Job>, AllocError> {
     let mut jobs = Vec::new(alloc);
-    jobs.push(job(alloc, 1, Kind::Read, 0, 1_024, &[])?)?;
+    for round in 0..rounds {
+        for one in asked {
+            let bytes = vec![in alloc; one.byte(worker, round); one.brings]?;
+            let slba = one.slba.wrapping_add(one.apart.wrapping_mul(worker.into()));
+            jobs.push(job(alloc, one.q, one.kind, slba, one.blocks, &bytes)?)?;
+        }
+    }
+    Ok(jobs)
+}
+
+/// The jobs of so many submitters, each of which does these so many times.
+pub(crate) fn lists_of(
+    alloc: Global,
+    asked: &[Asked],
+    submitters: u8,
+    rounds: u8,
+) -> Result<Vec<Vec<Job>>, AllocError> {
     let mut lists = Vec::new(alloc);
-    lists.push(jobs)?;
+    for worker in 0..submitters {
+        lists.push(jobs_of(alloc, asked, worker, rounds)?)?;
+    }
     Ok(lists)
 }
 
-/// Sees that the only job ended well, with zeros.
-fn see_zeros<R: Abort>(rt: &R, outcome: &Outcome, zeros: &[u8]) {
-    match outcome.jobs.as_slice() {
-        [list] => {
-            see(rt, &list.len(), &1);
-            assert!(rt; list.iter().all(|end| is_done(end, Status::SUCCESS, zeros)));
+/// Sees that the jobs of all submitters ended as is wanted, in their order.
+pub(crate) fn see_ends<R: Abort>(
+    rt: &R,
+    lists: &[Vec<JobEnd>],
+    asked: &[Asked],
+    submitters: u8,
+    rounds: u8,
+) {
+    see(rt, &lists.len(), &usize::from(submitters));
+    for (list, worker) in lists.iter().zip(0..submitters) {
+        let mut ends = list.iter();
+        for round in 0..rounds {
+            for one in asked {
+                match ends.next() {
+                    Some(end) => assert!(rt; one.is_end(end, worker, round)),
+                    None => panic!(rt; "a job has no end"),
+                }
+            }
         }
-        _ => panic!(rt; "one list"),
+        assert!(rt; ends.next().is_none());
     }
-}
-
-#[test]
-fn the_longest_list_is_built_in_a_thread(rt: HostRuntime) -> Result<(), Fail> {
-    let alloc = rt.alloc();
-    let config = Config {
-        pages: 2_060,
-        queues: 1,
-        entries: 4,
-        segment: 2,
-    };
-    let jobs = longest(alloc)?;
-    let outcome = play(&rt, alloc, config, 1_024, jobs, &Open)?;
-    let zeros = vec![in alloc; 0u8; 524_288]?;
-    see_zeros(&rt, &outcome, &zeros);
-    Ok(())
 }

@@ -1,17 +1,9 @@
-//! Books, also behind a lock, and runs of threads: what they must answer and leave, and what benches, worlds and lists of steps do where memory is
-//! refused. It has tests alone, so that they do not prove the book once more.
+//! Books, also behind a lock, and runs of threads: what no clause says of them, as who is woken and what a schedule leaves, and what benches, worlds and
+//! lists of steps do where memory is refused. It has tests alone, so that they do not prove the book once more.
 #![tactic(auto)]
 
 #[cfg(test)]
-mod calls;
-#[cfg(test)]
-mod closes;
-#[cfg(test)]
-mod closing;
-#[cfg(test)]
 mod crowd;
-#[cfg(test)]
-mod depth;
 #[cfg(test)]
 mod fixed_heap;
 #[cfg(test)]
@@ -21,19 +13,13 @@ mod host_sleepers;
 #[cfg(test)]
 mod jobs;
 #[cfg(test)]
-mod large_hosts;
-#[cfg(test)]
 mod lists;
 #[cfg(test)]
 mod looks;
 #[cfg(test)]
-mod opening;
-#[cfg(test)]
 mod openings;
 #[cfg(test)]
 mod part;
-#[cfg(test)]
-mod resets;
 #[cfg(test)]
 mod serving;
 #[cfg(test)]
@@ -43,10 +29,6 @@ mod shared_sleepers;
 #[cfg(test)]
 mod shared_worlds;
 #[cfg(test)]
-mod strangers;
-#[cfg(test)]
 mod tables;
-#[cfg(test)]
-mod turned_away;
 #[cfg(test)]
 mod wakes;

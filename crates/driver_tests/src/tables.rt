@@ -3,57 +3,77 @@
 ghost use Rattle.std.specs.Prelude.{◌≡◌};
 ghost use Rattle.step_core.specs.Opening.{opening_of};
 
-use crate::closing::READ;
 use crate::heap::{Heap, zeros};
 use crate::looks::{see, see_at};
-use crate::part::{USUAL, play_text};
-use driver_book::{BlankBook, Book, CloseFault, Full, FullLogBrand, LogBrand};
+use crate::part::{USUAL, opened, play_text};
+use driver_book::{BlankBook, CloseFault, Full, FullLogBrand, LogBrand};
 use session_scripts::desk::{Access, Desk};
 use std::alloc::Global;
 use std::marker::Brand;
 use std::process::Abort;
 use std::sync::Wait;
-use std::test::Fail;
 use step_core::{Config, Image};
 use test_support::{Refusal, Refusing};
 
 /// The tables: the counts of the seats, the ends of commands, and those of queues.
 const TABLES: u64 = 3;
 
-/// A new seat carries a Read through.
-fn read_once<'h, L: FullLogBrand, R: Abort + Wait>(rt: &R, desk: &mut Desk<'h, L, R, &'h Heap>) {
-    assert!(rt; desk.sit() == Ok(true));
-    play_text(rt, desk, READ);
-}
+/// A Read of the seat that acts, from its reservation to its release: ten entries of the log.
+const READ: &str = "reserve 1 read 0 1 0+512
+> reserve q 1 cid 0 data 1 chain 0
+build 1 0
+> build ok
+submit 1 0
+> submit ok
+ring 1
+> ring ok
+fetch 1
+> fetch cid 0 touched 2
+walk 1 0
+> walk more touched -
+walk 1 0
+> walk end touched 4
+complete 1 0
+> complete ok touched 3
+reap 1
+> reap done cid 0 status 0:00
+collect 1 0
+> collect status 0:00
+release 1 0
+> release ok
+> counts free 12 queue 4 chain 0 data 0
+";
 
-/// The second of two seats is kept back, and each table is refused in turn: its submission is missed.
-fn miss<'h, L: FullLogBrand, R: Abort + Wait>(
+/// Two seats carry a Read through each. Whichever table is refused, a seat that is kept back is missed; and the book is closed without one.
+fn close_without_tables<'h, L: FullLogBrand, R: Abort + Wait>(
     rt: &R,
     heap: &'h Heap,
     desk: &mut Desk<'h, L, R, &'h Heap>,
 ) {
+    for _ in 0..2 {
+        assert!(rt; desk.sit() == Ok(true));
+        play_text(rt, desk, READ);
+    }
     let Some(last) = desk.seats.pop() else {
         panic!(rt; "there is no seat");
     };
+    let missing = CloseFault::Missing { seat: 1, number: 1 };
     for growth in 1..=TABLES {
         heap.refuse(Refusal::Nth(growth));
-        match desk.close() {
-            Ok(_) => panic!(rt; "it was closed"),
-            Err(why) => see_at(
-                rt,
-                growth,
-                &why,
-                &CloseFault::Missing { seat: 1, number: 1 },
-            ),
-        }
+        see_at(rt, growth, &desk.close().err(), &Some(missing));
         see_at(rt, growth, &heap.tally().refused, &1);
     }
-    heap.refuse(Refusal::Never);
     assert!(rt; desk.seats.push(last).is_ok());
+    heap.refuse(Refusal::Nth(1));
+    match desk.close() {
+        Ok(report) => see(rt, &report.submissions, &2),
+        Err(why) => panic!(rt; "{why}"),
+    }
+    see(rt, &heap.tally().refused, &1);
 }
 
-/// Two seats carry a Read through each. Whichever table is refused, a seat that is kept back is missed; and the book is closed without one.
-fn close_without_tables<'h, L: LogBrand, R: Abort + Wait>(
+/// Does so with a new book.
+fn run<'h, L: LogBrand, R: Abort + Wait>(
     rt: &'h R,
     alloc: Global,
     heap: &'h Heap,
@@ -67,30 +87,17 @@ fn close_without_tables<'h, L: LogBrand, R: Abort + Wait>(
     requires list { blank.drafts.name ≡ L.list }
     requires opening { L.opening ≡ opening_of config image }
 {
-    let book = match Book::<Full<L>, &'h Heap>::open(heap, config, image, blank) {
-        Ok(book) => book,
-        Err(_) => panic!(rt; "it was not opened"),
-    };
+    let book = opened::<Full<L>, &'h Heap, R>(rt, heap, config, image, blank);
     let mut desk = Desk::new(rt, alloc, heap, Access::Book(book));
-    read_once(rt, &mut desk);
-    read_once(rt, &mut desk);
-    miss(rt, heap, &mut desk);
-    heap.refuse(Refusal::Nth(1));
-    match desk.close() {
-        Ok(report) => see(rt, &report.submissions, &2),
-        Err(why) => panic!(rt; "{why}"),
-    }
-    see(rt, &heap.tally().refused, &1);
+    close_without_tables(rt, heap, &mut desk);
     see(rt, &desk.end(), &20);
 }
 
 #[test]
-fn a_book_is_closed_without_tables(rt: HostRuntime) -> Result<(), Fail> {
+fn a_book_is_closed_without_tables(rt: HostRuntime) {
     let alloc = rt.alloc();
     let heap = Refusing::new(alloc);
-    let image = zeros(&heap)?;
-    let blank = BlankBook::new();
-    close_without_tables::<Brand, HostRuntime>(&rt, alloc, &heap, USUAL, image, blank);
+    let image = zeros(&rt, &heap);
+    run::<Brand, HostRuntime>(&rt, alloc, &heap, USUAL, image, BlankBook::new());
     see(&rt, &heap.tally().blocks, &0);
-    Ok(())
 }

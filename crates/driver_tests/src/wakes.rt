@@ -3,19 +3,17 @@
 ghost use Rattle.std.specs.Prelude.{◌≡◌};
 ghost use Rattle.step_core.specs.Opening.{opening_of};
 
-use crate::looks::see;
+use crate::looks::{comes, see};
 use crate::part::{USUAL, opened, play_text};
 use block_image::Image;
 use driver_book::{BlankBook, Full, FullLogBrand, LogBrand};
-use driver_threads::{
-    Gate, GateClosed, Job, JobEnd, JobRefusal, Point, Shared, Worked, poller, submitter,
-};
+use driver_threads::{Gate, GateClosed, Job, JobEnd, JobRefusal, Point, Shared, poller, submitter};
 use entry_codec::Status;
 use io_commands::Kind;
 use session_scripts::desk::runs::{is_done, job};
 use session_scripts::desk::values::draft_of;
 use session_scripts::desk::{Access, Desk, Value};
-use std::alloc::{AllocError, Global};
+use std::alloc::Global;
 use std::marker::Brand;
 use std::process::Abort;
 use std::sync::Wait;
@@ -68,6 +66,8 @@ enum End {
 /// A submitter that sleeps, and the calls of which the last one ends what it waits for. All of its jobs are on queue 1.
 #[derive(Clone, Copy)]
 struct Waking {
+    /// What wakes whom.
+    name: &'static str,
     /// What is played at the desk before the submitter comes.
     before: &'static [&'static str],
     /// The kind of each job, its blocks, and the bytes that it brings.
@@ -94,9 +94,6 @@ const ROUNDS: u32 = 3;
 /// command is to be fetched is rung once more.
 const ASLEEP: u64 = 50;
 
-/// How many milliseconds the submitter has until it has submitted, and behind the last call until it is back.
-const PATIENCE: u32 = 10_000;
-
 /// How far the submitter has come.
 #[derive(Drop)]
 struct Progress {
@@ -115,6 +112,7 @@ impl Gate for Progress {
 
 /// It waits for the end of its Read. Its next job finds no queue.
 const COMMAND_ENDS: Waking = Waking {
+    name: "a reset, for a command",
     before: &[],
     jobs: &[(Kind::Read, 1, &[]), (Kind::Read, 1, &[])],
     submits: true,
@@ -139,6 +137,7 @@ reserve 1 read 0 1 0+512
 
 /// It waits for an identifier. There is no queue any more then, for its next job neither.
 const QUEUE_GOES: Waking = Waking {
+    name: "a reset, for an identifier",
     before: &[NO_IDENTIFIER],
     jobs: &[(Kind::Read, 1, &[]), (Kind::Read, 1, &[])],
     submits: false,
@@ -153,6 +152,7 @@ const QUEUE_GOES: Waking = Waking {
 
 /// It waits for an identifier, and its queue is going to be deleted.
 const QUEUE_IS_DELETED: Waking = Waking {
+    name: "a deletion, for an identifier",
     before: &[NO_IDENTIFIER],
     jobs: &[(Kind::Read, 1, &[])],
     submits: false,
@@ -164,6 +164,7 @@ const QUEUE_IS_DELETED: Waking = Waking {
 
 /// It waits for the end of its Read, which is never fetched: its queue is deleted.
 const QUEUE_RETIRES: Waking = Waking {
+    name: "a retirement, for a command",
     before: &[],
     jobs: &[(Kind::Read, 1, &[])],
     submits: true,
@@ -182,6 +183,7 @@ const QUEUE_RETIRES: Waking = Waking {
 
 /// It waits for the end of its Read, which is served and reaped.
 const COMMAND_IS_REAPED: Waking = Waking {
+    name: "a reap, for a command",
     before: &[],
     jobs: &[(Kind::Read, 1, &[])],
     submits: true,
@@ -200,6 +202,7 @@ const COMMAND_IS_REAPED: Waking = Waking {
 
 /// It waits for the end of its Read, and the poller for a completion.
 const COMMAND_COMPLETES: Waking = Waking {
+    name: "a completion, the poller",
     before: &[],
     jobs: &[(Kind::Read, 1, &[])],
     submits: true,
@@ -217,6 +220,7 @@ const COMMAND_COMPLETES: Waking = Waking {
 
 /// It waits for the end of its Read, and the poller for a completion, which is forged: that of identifier 0, with SQ head 1 and status 0:00.
 const COMPLETION_IS_FORGED: Waking = Waking {
+    name: "a forged completion, the poller",
     before: &[],
     jobs: &[(Kind::Read, 1, &[])],
     submits: true,
@@ -268,6 +272,7 @@ release 1 0
 /// It waits for the end of its Read, whose identifier is that of the command which the controller still has: the fetch itself posts that. The
 /// poller waits for a completion.
 const IDENTIFIER_CONFLICTS: Waking = Waking {
+    name: "a fetch, the poller",
     before: &[FORGED_END],
     jobs: &[(Kind::Read, 1, &[])],
     submits: true,
@@ -279,6 +284,7 @@ const IDENTIFIER_CONFLICTS: Waking = Waking {
 
 /// It waits for a page, as a draft has all ten. It gets its own draft then, and ends of itself, since it brings a byte too many.
 const PAGES_COME_BACK: Waking = Waking {
+    name: "a cancellation, for pages",
     before: &[
         "reserve 1 read 0 9 0+512 0+512 0+512 0+512 0+512 0+512 0+512 0+512 0+512
 > reserve q 1 cid 0 data 9 chain 1
@@ -341,6 +347,7 @@ reap 0
 
 /// It waits for all twelve pages that no queue owns, of which a draft has one. They are eleven then.
 const COMPLETION_HALF_COMES: Waking = Waking {
+    name: "a completion half, for pages",
     before: &[ONE_PAGE, QUEUE_2_DELETED],
     jobs: &[(Kind::Read, 11, &[])],
     submits: false,
@@ -352,6 +359,7 @@ const COMPLETION_HALF_COMES: Waking = Waking {
 
 /// It waits for all eleven pages that no queue owns, of which a draft has one. They are ten then.
 const SUBMISSION_HALF_COMES: Waking = Waking {
+    name: "a submission half, for pages",
     before: &[ONE_PAGE, QUEUE_2_DELETED, QUEUE_2_HALF_MADE],
     jobs: &[(Kind::Read, 10, &[])],
     submits: false,
@@ -363,6 +371,7 @@ const SUBMISSION_HALF_COMES: Waking = Waking {
 
 /// It waits for the end of its Read, which never comes: it is told to stop.
 const COMMAND_IS_CUT_OFF: Waking = Waking {
+    name: "a stop, for a command",
     before: &[],
     jobs: &[(Kind::Read, 1, &[])],
     submits: true,
@@ -374,6 +383,7 @@ const COMMAND_IS_CUT_OFF: Waking = Waking {
 
 /// It waits for an identifier, which never comes: it is told to stop.
 const REQUEST_IS_CUT_OFF: Waking = Waking {
+    name: "a stop, for an identifier",
     before: &[NO_IDENTIFIER],
     jobs: &[(Kind::Read, 1, &[])],
     submits: false,
@@ -383,14 +393,22 @@ const REQUEST_IS_CUT_OFF: Waking = Waking {
     entries: 3,
 };
 
-/// The jobs of a submitter.
-fn jobs_of(alloc: Global, waking: &Waking) -> Result<Vec<Job>, AllocError> {
-    let mut jobs = Vec::new(alloc);
-    for (kind, blocks, bytes) in waking.jobs {
-        jobs.push(job(alloc, 1, *kind, 0, *blocks, bytes)?)?;
-    }
-    Ok(jobs)
-}
+/// Each of them.
+const WAKINGS: [Waking; 13] = [
+    COMMAND_ENDS,
+    QUEUE_GOES,
+    QUEUE_IS_DELETED,
+    QUEUE_RETIRES,
+    COMMAND_IS_REAPED,
+    COMMAND_COMPLETES,
+    COMPLETION_IS_FORGED,
+    IDENTIFIER_CONFLICTS,
+    PAGES_COME_BACK,
+    COMPLETION_HALF_COMES,
+    SUBMISSION_HALF_COMES,
+    COMMAND_IS_CUT_OFF,
+    REQUEST_IS_CUT_OFF,
+];
 
 /// Whether a job came to this end.
 fn is_end(end: &JobEnd, want: &End) -> bool {
@@ -398,32 +416,6 @@ fn is_end(end: &JobEnd, want: &End) -> bool {
         End::Read(status) => is_done(end, *status, &[0; 512]),
         End::Refused(why) => matches!(end, JobEnd::Refused(told) if told == why),
     }
-}
-
-/// Sees that the jobs came to these ends.
-fn see_ends<R: Abort>(rt: &R, ends: &[JobEnd], wanted: &[End]) {
-    see(rt, &ends.len(), &wanted.len());
-    for (end, want) in ends.iter().zip(wanted) {
-        assert!(rt; is_end(end, want));
-    }
-}
-
-/// Carries jobs through as a submitter, and tells that it is back.
-fn submit_all<L: FullLogBrand, R: Wait>(
-    rt: &R,
-    alloc: Global,
-    shared: &Shared<L>,
-    jobs: Vec<Job>,
-    progress: &Progress,
-) -> Vec<JobEnd> {
-    let Worked {
-        seat: _,
-        ends,
-        closed: _,
-        short: _,
-    } = submitter(rt, alloc, shared, progress, 0, jobs, 1);
-    progress.back.store(true, Ordering::SeqCst);
-    ends
 }
 
 /// Cancels the draft with identifier 0 of queue 1. Whether it was accepted.
@@ -466,97 +458,61 @@ fn is_accepted<L: FullLogBrand, R: Wait>(
         Call::Reset => shared.reset(rt).is_ok(),
         Call::Stop => {
             shared.stop(rt);
-            true
+            shared.stopping(rt)
         }
     }
 }
 
-/// Makes each call once the threads sleep.
-fn make_calls<L: FullLogBrand, R: Abort + Wait + Clock>(
-    rt: &R,
-    shared: &Shared<L>,
-    values: &mut Vec<Value>,
-    calls: &[Call],
-) {
-    for call in calls {
-        thread::sleep(rt, Duration::from_millis(ASLEEP));
-        assert!(rt; is_accepted(rt, shared, values, *call));
+/// The jobs of a submitter.
+fn jobs_of<R: Abort>(rt: &R, alloc: Global, waking: &Waking) -> Vec<Job> {
+    let mut jobs = Vec::new(alloc);
+    for (kind, blocks, bytes) in waking.jobs {
+        let job = job(alloc, 1, *kind, 0, *blocks, bytes).expect(rt, "memory");
+        assert!(rt; jobs.push(job).is_ok());
     }
+    jobs
 }
 
-/// Waits until the submitter has come so far. False where it does not.
-fn comes<R: Clock>(rt: &R, so_far: &AtomicBool) -> bool {
-    for _ in 0..PATIENCE {
-        if so_far.load(Ordering::SeqCst) {
-            return true;
-        }
-        thread::sleep(rt, Duration::from_millis(1));
-    }
-    false
-}
-
-/// Polls, where that is wanted, until the workers are told to stop.
-fn poll<L: FullLogBrand, R: Wait>(
-    rt: &R,
-    shared: &Shared<L>,
-    is_wanted: bool,
-) -> Result<(), AllocError> {
-    if is_wanted {
-        poller(rt, shared)
-    } else {
-        Ok(())
-    }
-}
-
-/// Runs a submitter, and a poller where one is wanted, in threads of their own, makes the calls, and answers how the jobs ended.
+/// Runs a submitter, and a poller where one is wanted, in threads of their own, makes each call once they sleep, and answers how the jobs ended.
 fn woken<L: FullLogBrand + Send + Sync, R: Abort + Threads + Wait + Clock + Sync>(
     rt: &R,
-    alloc: Global,
     shared: &Shared<L>,
     values: &mut Vec<Value>,
     jobs: Vec<Job>,
-    progress: &Progress,
+    alloc: Global,
     waking: &Waking,
 ) -> Vec<JobEnd> {
-    let polls = waking.polls;
-    thread::scope(thread::scope_env(), rt, |scope| {
-        let Ok(polls) = scope.spawn(move || poll(rt, shared, polls)) else {
-            panic!(rt; "no thread was made");
-        };
-        let Ok(submits) = scope.spawn(move || submit_all(rt, alloc, shared, jobs, progress)) else {
-            panic!(rt; "no thread was made");
-        };
-        assert!(rt;
-            !waking.submits || comes(rt, &progress.submitted),
-            "nothing was submitted"
-        );
-        make_calls(rt, shared, values, waking.calls);
-        assert!(rt; comes(rt, &progress.back), "the submitter was not woken");
-        shared.stop(rt);
-        assert!(rt; polls.join(rt).is_ok());
-        submits.join(rt)
-    })
-}
-
-/// Has a submitter sleep behind the lock of a desk, and sees that it is woken.
-fn see_woken<L: FullLogBrand + Send + Sync, R: Abort + Threads + Wait + Clock + Sync>(
-    rt: &R,
-    desk: &mut Desk<'_, L, R>,
-    waking: &Waking,
-) {
-    let alloc = desk.alloc;
-    let Ok(jobs) = jobs_of(alloc, waking) else {
-        panic!(rt; "no memory for the jobs");
-    };
-    let Access::Lock(shared) = &desk.access else {
-        panic!(rt; "there is no lock");
-    };
     let progress = Progress {
         submitted: AtomicBool::new(false),
         back: AtomicBool::new(false),
     };
-    let ends = woken(rt, alloc, shared, &mut desk.values, jobs, &progress, waking);
-    see_ends(rt, &ends, waking.ends);
+    let told = &progress;
+    let polls = waking.polls;
+    thread::scope(thread::scope_env(), rt, |scope| {
+        let Ok(polls) = scope.spawn(move || !polls || poller(rt, shared).is_ok()) else {
+            panic!(rt; "no thread was made");
+        };
+        let Ok(submits) = scope.spawn(move || {
+            let worked = submitter(rt, alloc, shared, told, 0, jobs, 1);
+            told.back.store(true, Ordering::SeqCst);
+            worked.ends
+        }) else {
+            panic!(rt; "no thread was made");
+        };
+        assert!(rt;
+            !waking.submits || comes(rt, &told.submitted),
+            "{}",
+            waking.name
+        );
+        for call in waking.calls {
+            thread::sleep(rt, Duration::from_millis(ASLEEP));
+            assert!(rt; is_accepted(rt, shared, values, *call), "{}", waking.name);
+        }
+        assert!(rt; comes(rt, &told.back), "{}", waking.name);
+        shared.stop(rt);
+        assert!(rt; polls.join(rt), "{}", waking.name);
+        submits.join(rt)
+    })
 }
 
 /// A submitter waits, over a new book, and is woken.
@@ -574,85 +530,39 @@ fn wake<L: LogBrand + Send + Sync, R: Abort + Threads + Wait + Clock + Sync>(
     requires list { blank.drafts.name ≡ L.list }
     requires opening { L.opening ≡ opening_of config image }
 {
-    let shared = Shared::new(opened::<Full<L>, R>(rt, alloc, config, image, blank));
+    let shared = Shared::new(opened::<Full<L>, Global, R>(rt, alloc, config, image, blank));
     let mut desk = Desk::new(rt, alloc, alloc, Access::Lock(shared));
     assert!(rt; desk.sit() == Ok(true));
     for text in waking.before {
         play_text(rt, &mut desk, text);
     }
-    see_woken(rt, &mut desk, waking);
+    let lent = &mut desk;
+    let Access::Lock(shared) = &lent.access else {
+        panic!(rt; "there is no lock");
+    };
+    let jobs = jobs_of(rt, alloc, waking);
+    let ends = woken(rt, shared, &mut lent.values, jobs, alloc, waking);
+    see(rt, &ends.len(), &waking.ends.len());
+    for (end, want) in ends.iter().zip(waking.ends) {
+        assert!(rt; is_end(end, want), "{}", waking.name);
+    }
     see(rt, &desk.end(), &waking.entries);
 }
 
-/// A submitter waits and is woken, as often as it is tried.
-fn run<R: Abort + Threads + Wait + Clock + Sync>(rt: &R, alloc: Global, waking: &Waking) {
-    for _ in 0..ROUNDS {
-        let image = Image::zeroed(alloc, 64).expect(rt, "an image");
-        wake::<Brand, R>(rt, alloc, TWO_QUEUES, image, BlankBook::new(), waking);
+/// Each wakes its submitter, as often as it is tried.
+#[test]
+fn each_call_wakes_who_waits_for_it(rt: HostRuntime) {
+    for waking in &WAKINGS {
+        for _ in 0..ROUNDS {
+            let image = Image::zeroed(rt.alloc(), 64).expect(&rt, "an image");
+            wake::<Brand, HostRuntime>(
+                &rt,
+                rt.alloc(),
+                TWO_QUEUES,
+                image,
+                BlankBook::new(),
+                waking,
+            );
+        }
     }
-}
-
-#[test]
-fn a_reset_wakes_who_waits_for_a_command(rt: HostRuntime) {
-    run(&rt, rt.alloc(), &COMMAND_ENDS);
-}
-
-#[test]
-fn a_reset_wakes_who_waits_for_an_identifier(rt: HostRuntime) {
-    run(&rt, rt.alloc(), &QUEUE_GOES);
-}
-
-#[test]
-fn a_deletion_wakes_who_waits_for_an_identifier(rt: HostRuntime) {
-    run(&rt, rt.alloc(), &QUEUE_IS_DELETED);
-}
-
-#[test]
-fn a_retirement_wakes_who_waits_for_a_command(rt: HostRuntime) {
-    run(&rt, rt.alloc(), &QUEUE_RETIRES);
-}
-
-#[test]
-fn a_reap_wakes_who_waits_for_a_command(rt: HostRuntime) {
-    run(&rt, rt.alloc(), &COMMAND_IS_REAPED);
-}
-
-#[test]
-fn a_completion_wakes_the_poller(rt: HostRuntime) {
-    run(&rt, rt.alloc(), &COMMAND_COMPLETES);
-}
-
-#[test]
-fn a_forged_completion_wakes_the_poller(rt: HostRuntime) {
-    run(&rt, rt.alloc(), &COMPLETION_IS_FORGED);
-}
-
-#[test]
-fn a_fetch_wakes_the_poller(rt: HostRuntime) {
-    run(&rt, rt.alloc(), &IDENTIFIER_CONFLICTS);
-}
-
-#[test]
-fn a_cancellation_wakes_who_waits_for_pages(rt: HostRuntime) {
-    run(&rt, rt.alloc(), &PAGES_COME_BACK);
-}
-
-#[test]
-fn a_completion_half_wakes_who_waits_for_pages(rt: HostRuntime) {
-    run(&rt, rt.alloc(), &COMPLETION_HALF_COMES);
-}
-
-#[test]
-fn a_submission_half_wakes_who_waits_for_pages(rt: HostRuntime) {
-    run(&rt, rt.alloc(), &SUBMISSION_HALF_COMES);
-}
-
-#[test]
-fn a_stop_wakes_who_waits_for_a_command(rt: HostRuntime) {
-    run(&rt, rt.alloc(), &COMMAND_IS_CUT_OFF);
-}
-
-#[test]
-fn a_stop_wakes_who_waits_for_an_identifier(rt: HostRuntime) {
-    run(&rt, rt.alloc(), &REQUEST_IS_CUT_OFF);
 }

@@ -1,7 +1,8 @@
 //! The allocator that refuses, under a list that grows; and what a comparison keeps.
 
-use std::alloc::{AllocError, Allocator, Global};
-use test_support::{Difference, Refusal, Refusing, Seen};
+use crate::expecting::{same, same_at};
+use std::alloc::{AllocError, Allocator};
+use test_support::{Difference, Refusal, Refusing, Seen, Tally};
 
 /// Four numbers, in a block that grows each time.
 fn four<A: Allocator>(alloc: A) -> Result<Vec<u64, A>, AllocError> {
@@ -13,90 +14,81 @@ fn four<A: Allocator>(alloc: A) -> Result<Vec<u64, A>, AllocError> {
     Ok(list)
 }
 
-/// Whether four numbers are made. Then they go at once.
-fn is_made<A: Allocator>(alloc: A) -> bool {
-    four(alloc).is_ok()
+/// So many calls, and so many of them refused, with nothing out.
+fn calls(calls: u64, refused: u64) -> Tally {
+    Tally {
+        calls,
+        refused,
+        blocks: 0,
+        bytes: 0,
+    }
 }
 
-/// Sees the calls, those of them that were refused, and the blocks and bytes that are out.
-fn see_tally<A: Allocator>(seen: &mut Seen, heap: &Refusing<A>, wanted: (u64, u64, u64, u64)) {
-    let tally = heap.tally();
-    seen.same(
-        (tally.calls, tally.refused, tally.blocks, tally.bytes),
-        wanted,
+/// What is to be refused from now on, if that changes; whether four numbers are made then; and the calls so far, and those that were refused.
+static ROWS: [(Option<Refusal>, bool, (u64, u64)); 10] = [
+    (Some(Refusal::Nth(1)), false, (1, 1)),
+    (None, true, (5, 1)),
+    (Some(Refusal::Nth(4)), false, (4, 1)),
+    (None, true, (8, 1)),
+    (Some(Refusal::Nth(5)), true, (4, 0)),
+    (Some(Refusal::NthOn(6)), true, (4, 0)),
+    (None, false, (6, 1)),
+    (None, false, (7, 2)),
+    (Some(Refusal::Never), true, (4, 0)),
+    (Some(Refusal::NthOn(3)), false, (3, 1)),
+];
+
+/// Calls are refused on purpose, also where they are passed on by another allocator, which counts them as its own and refuses none.
+#[test]
+fn refuses_what_it_is_told(rt: HostRuntime) {
+    let heap = Refusing::new(rt.alloc());
+    for (at, (refusal, made, (asked, refused))) in ROWS.iter().enumerate() {
+        if let Some(refusal) = refusal {
+            heap.refuse(*refusal);
+        }
+        same_at(&rt, at, four(&heap).is_ok(), *made);
+        same_at(&rt, at, heap.tally(), calls(*asked, *refused));
+    }
+    let outer = Refusing::new(&heap);
+    heap.refuse(Refusal::NthOn(3));
+    same(&rt, four(&outer).is_ok(), false);
+    same(
+        &rt,
+        (outer.tally(), heap.tally()),
+        (calls(3, 0), calls(3, 1)),
     );
 }
 
+/// Blocks and bytes are counted as long as they are out.
 #[test]
-fn counts_what_is_out(rt: HostRuntime) -> Result<(), Difference> {
-    let mut seen = Seen::new(rt.alloc());
+fn counts_what_is_out(rt: HostRuntime) {
     let heap = Refusing::new(rt.alloc());
     let list = four(&heap).expect(&rt, "four numbers");
-    see_tally(&mut seen, &heap, (4, 0, 1, 32));
     let boxed = Box::new(&heap, 7u8).expect(&rt, "a box");
-    see_tally(&mut seen, &heap, (5, 0, 2, 33));
+    let Tally { blocks, bytes, .. } = heap.tally();
+    same(&rt, (blocks, bytes), (2, 33));
     drop(boxed);
-    seen.same(list.as_slice(), [1, 2, 3, 4].as_slice());
+    same(&rt, list.as_slice(), [1, 2, 3, 4].as_slice());
     drop(list);
-    see_tally(&mut seen, &heap, (5, 0, 0, 0));
-    seen.end()
-}
-
-/// Sees that one call in four is refused, and then none.
-fn refuses_one_call(seen: &mut Seen, heap: &Refusing<Global>) {
-    for refused in 1..5 {
-        heap.refuse(Refusal::Nth(refused));
-        seen.same_at(refused, is_made(heap), false);
-        see_tally(seen, heap, (refused, 1, 0, 0));
-        seen.same_at(refused, is_made(heap), true);
-    }
-    heap.refuse(Refusal::Nth(5));
-    seen.holds("the fifth of four", is_made(heap));
-    see_tally(seen, heap, (4, 0, 0, 0));
-}
-
-/// Sees that all calls from the sixth on are refused, until none is to be.
-fn refuses_all_later_calls(seen: &mut Seen, heap: &Refusing<Global>) {
-    heap.refuse(Refusal::NthOn(6));
-    seen.holds("four before the sixth", is_made(heap));
-    seen.holds("none behind it", !is_made(heap));
-    seen.holds("nor later", !is_made(heap));
-    see_tally(seen, heap, (7, 2, 0, 0));
-    heap.refuse(Refusal::Never);
-    seen.holds("all again", is_made(heap));
-    see_tally(seen, heap, (4, 0, 0, 0));
-}
-
-/// Calls that are refused on purpose, and one that the other allocator refuses.
-#[test]
-fn refuses_what_it_is_told(rt: HostRuntime) -> Result<(), Difference> {
-    let mut seen = Seen::new(rt.alloc());
-    let inner = Refusing::new(rt.alloc());
-    refuses_one_call(&mut seen, &inner);
-    refuses_all_later_calls(&mut seen, &inner);
-    inner.refuse(Refusal::NthOn(3));
-    let outer = Refusing::new(&inner);
-    seen.holds("refused by the other", !is_made(&outer));
-    see_tally(&mut seen, &outer, (3, 0, 0, 0));
-    see_tally(&mut seen, &inner, (3, 1, 0, 0));
-    seen.end()
+    same(&rt, heap.tally(), calls(5, 0));
 }
 
 /// The first comparison that does not hold is kept.
 #[test]
-fn a_difference_is_kept(rt: HostRuntime) -> Result<(), Difference> {
-    let mut other = Seen::new(rt.alloc());
-    other.same(1, 1);
-    other.same_at("place", 2, 3);
-    other.holds("nothing", false);
+fn a_difference_is_kept(rt: HostRuntime) {
     let mut seen = Seen::new(rt.alloc());
-    match other.end() {
-        Ok(()) => seen.holds("a difference", false),
-        Err(Difference { comparison, text }) => {
-            seen.same(comparison, 2);
-            let text = text.expect(&rt, "its text");
-            seen.same(text.as_str(), "at \"place\": found 2, wanted 3");
-        }
-    }
-    seen.end()
+    seen.same(1, 1);
+    seen.same_at("place", 2, 3);
+    seen.holds("nothing", false);
+    let Err(
+        Difference {
+            comparison,
+            text: Ok(text),
+        },
+    ) = seen.end()
+    else {
+        panic!(&rt; "no difference");
+    };
+    same(&rt, comparison, 2);
+    same(&rt, text.as_str(), "at \"place\": found 2, wanted 3");
 }

@@ -5,29 +5,30 @@
 //! on a bench. [`runs`] are runs of threads over a book of their own, and [`two_submitters`] has the jobs of one.
 
 mod access;
-pub mod answers;
+mod answers;
 pub mod runs;
-pub mod steps;
+mod steps;
 pub mod two_submitters;
 pub mod values;
 
-use crate::desk::answers::{cancelled, collected, released, reserved, submitted};
+use crate::desk::access::{step_behind_lock, step_through_book};
+use crate::desk::answers::{kept, refused};
 use crate::desk::steps::{build, fill, gather};
 use crate::desk::values::{draft_of, finished_of, ticket_of};
 pub use access::Access;
 pub use answers::Answer;
-use driver_book::{CloseFault, FullLogBrand, NoSeat, Receipt, ReportIn, Seat};
+use driver_book::{CloseFault, FullLogBrand, NoSeat, ReportIn, Seat};
+use io_commands::Request;
 use page_ledger::{Counts, Owner};
 use page_memory::PageNo;
 use script_cli::transcripts::{StepMaker, reply_in, step_in};
 use std::alloc::{AllocError, Allocator, Global};
 use std::mem;
 use std::sync::Wait;
-use step_core::{Leftover, Reply, Step, StepIn};
+use step_core::{Leftover, Reply, Step, StepIn, StepRefused};
 pub use values::Value;
 
 /// A driver in one thread, with seats, and the commands that it keeps. The last seat acts: it submits and releases.
-#[derive(Drop)]
 pub struct Desk<'r, L: FullLogBrand, R: Wait, A: Allocator = Global> {
     /// What may wait for a lock.
     pub rt: &'r R,
@@ -62,7 +63,11 @@ impl<'r, L: FullLogBrand, R: Wait, A: Allocator + Copy> Desk<'r, L, R, A> {
     ///
     /// Where memory is refused for the list of the seats.
     pub fn sit(&mut self) -> Result<bool, AllocError> {
-        match self.access.seat(self.rt) {
+        let made = match &mut self.access {
+            Access::Book(book) => book.seat(),
+            Access::Lock(shared) => shared.seat(self.rt),
+        };
+        match made {
             Ok(seat) => {
                 self.seats.push(seat)?;
                 Ok(true)
@@ -79,8 +84,18 @@ impl<'r, L: FullLogBrand, R: Wait, A: Allocator + Copy> Desk<'r, L, R, A> {
         let Some(draft) = draft_of(&mut self.values, q, cid) else {
             return Ok(Reply::NoValue);
         };
-        let answer = self.access.submit(self.rt, seat, draft);
-        submitted(&mut self.values, answer)
+        let answer = match &mut self.access {
+            Access::Book(book) => book.submit(seat, draft),
+            Access::Lock(shared) => shared.submit(self.rt, seat, draft),
+        };
+        match answer {
+            Ok(ticket) => kept(&mut self.values, Value::Ticket(ticket), Reply::Accepted),
+            Err(back) => kept(
+                &mut self.values,
+                Value::Draft(back.value),
+                refused(back.why),
+            ),
+        }
     }
 
     /// Releases a finished command of the last seat, where it has a receipt of it.
@@ -92,26 +107,76 @@ impl<'r, L: FullLogBrand, R: Wait, A: Allocator + Copy> Desk<'r, L, R, A> {
             return Ok(Reply::NoValue);
         };
         if !seat.awaits(finished.q(), finished.cid()) {
-            self.values.push(Value::Finished(finished))?;
-            return Ok(Reply::NoValue);
+            return kept(&mut self.values, Value::Finished(finished), Reply::NoValue);
         }
-        let answer = self.access.release(self.rt, seat, finished);
-        released(&mut self.values, answer)
-    }
-
-    /// Cancels a draft.
-    fn cancel(&mut self, q: u16, cid: u16) -> Answer<A> {
-        match draft_of(&mut self.values, q, cid) {
-            Some(draft) => cancelled(&mut self.values, self.access.cancel(self.rt, draft)),
-            None => Ok(Reply::NoValue),
+        let answer = match &mut self.access {
+            Access::Book(book) => book.release(seat, finished),
+            Access::Lock(shared) => shared.release(self.rt, seat, finished),
+        };
+        match answer {
+            Ok(()) => Ok(Reply::Accepted),
+            Err(back) => kept(
+                &mut self.values,
+                Value::Finished(back.value),
+                refused(back.why),
+            ),
         }
     }
 
     /// Collects a command by its ticket.
     fn collect(&mut self, q: u16, cid: u16) -> Answer<A> {
-        match ticket_of(&mut self.values, q, cid) {
-            Some(ticket) => collected(&mut self.values, self.access.collect(self.rt, ticket)),
-            None => Ok(Reply::NoValue),
+        let Some(ticket) = ticket_of(&mut self.values, q, cid) else {
+            return Ok(Reply::NoValue);
+        };
+        let answer = match &mut self.access {
+            Access::Book(book) => book.collect(ticket),
+            Access::Lock(shared) => shared.collect(self.rt, ticket),
+        };
+        match answer {
+            Ok(finished) => {
+                let (status, hints) = (finished.status(), finished.hints());
+                let reply = Reply::Collected { status, hints };
+                kept(&mut self.values, Value::Finished(finished), reply)
+            }
+            Err(back) => kept(
+                &mut self.values,
+                Value::Ticket(back.value),
+                refused(back.why),
+            ),
+        }
+    }
+
+    /// Reserves a command.
+    fn reserve(&mut self, q: u16, request: Request<A>) -> Answer<A> {
+        let answer = match &mut self.access {
+            Access::Book(book) => book.reserve(q, request),
+            Access::Lock(shared) => shared.reserve(self.rt, q, request),
+        };
+        match answer {
+            Ok(draft) => {
+                let reply = Reply::reserved(&draft);
+                kept(&mut self.values, Value::Draft(draft), reply)
+            }
+            Err(back) => Ok(refused(back.why)),
+        }
+    }
+
+    /// Cancels a draft.
+    fn cancel(&mut self, q: u16, cid: u16) -> Answer<A> {
+        let Some(draft) = draft_of(&mut self.values, q, cid) else {
+            return Ok(Reply::NoValue);
+        };
+        let answer = match &mut self.access {
+            Access::Book(book) => book.cancel(draft),
+            Access::Lock(shared) => shared.cancel(self.rt, draft),
+        };
+        match answer {
+            Ok(()) => Ok(Reply::Accepted),
+            Err(back) => kept(
+                &mut self.values,
+                Value::Draft(back.value),
+                refused(back.why),
+            ),
         }
     }
 
@@ -122,17 +187,24 @@ impl<'r, L: FullLogBrand, R: Wait, A: Allocator + Copy> Desk<'r, L, R, A> {
     /// Where memory is refused for the list of the commands.
     pub fn make(&mut self, step: StepIn<A>) -> Answer<A> {
         match step {
-            Step::Reserve { q, request } => {
-                reserved(&mut self.values, self.access.reserve(self.rt, q, request))
-            }
-            Step::Fill { q, cid, bytes } => fill(&mut self.values, q, cid, bytes.as_slice()),
-            Step::Build { q, cid } => build(self.heap, &mut self.values, q, cid),
+            Step::Reserve { q, request } => self.reserve(q, request),
             Step::Submit { q, cid } => self.submit(q, cid),
             Step::Cancel { q, cid } => self.cancel(q, cid),
             Step::Collect { q, cid } => self.collect(q, cid),
-            Step::Gather { q, cid } => gather(self.heap, &mut self.values, q, cid),
             Step::Release { q, cid } => self.release(q, cid),
-            other => Ok(self.access.step_alone(self.rt, other)),
+            Step::Fill { q, cid, bytes } => fill(&mut self.values, q, cid, bytes.as_slice()),
+            Step::Build { q, cid } => build(self.heap, &mut self.values, q, cid),
+            Step::Gather { q, cid } => gather(self.heap, &mut self.values, q, cid),
+            other => {
+                let answer = match &mut self.access {
+                    Access::Book(book) => step_through_book(book, &other),
+                    Access::Lock(shared) => step_behind_lock(self.rt, shared, &other),
+                };
+                match answer {
+                    Ok(reply) => Ok(reply),
+                    Err(StepRefused { why, touched }) => Ok(Reply::Refused { why, touched }),
+                }
+            }
         }
     }
 
@@ -143,7 +215,11 @@ impl<'r, L: FullLogBrand, R: Wait, A: Allocator + Copy> Desk<'r, L, R, A> {
     /// Where the book is not closed. The seats came back.
     pub fn close(&mut self) -> Result<ReportIn<A>, CloseFault> {
         let seats = mem::replace(&mut self.seats, Vec::new(self.heap));
-        match self.access.close(self.rt, seats) {
+        let answer = match &mut self.access {
+            Access::Book(book) => book.close(seats),
+            Access::Lock(shared) => shared.close(self.rt, seats),
+        };
+        match answer {
             Ok(report) => Ok(report),
             Err(refused) => {
                 self.seats = refused.seats;
@@ -162,25 +238,16 @@ impl<'r, L: FullLogBrand, R: Wait, A: Allocator + Copy> Desk<'r, L, R, A> {
             seats: _,
             values,
         } = self;
-        let (entries, ended) = access.end();
+        let book = match access {
+            Access::Book(book) => book,
+            Access::Lock(shared) => shared.end(),
+        };
+        let entries = book.log().len();
+        let ended = book.end();
         for value in values {
             value.after(&ended);
         }
         entries
-    }
-}
-
-impl<'r, L: FullLogBrand, R: Wait, A: Allocator + Copy> Desk<'r, L, R, A> {
-    /// The receipts of the last seat; none where there is no seat.
-    ///
-    /// # Errors
-    ///
-    /// Where memory is refused.
-    pub fn receipts(&self, alloc: Global) -> Result<Vec<Receipt>, AllocError> {
-        match self.seats.last() {
-            Some(seat) => Vec::from_slice(alloc, seat.receipts()),
-            None => Ok(Vec::new(alloc)),
-        }
     }
 }
 
@@ -192,10 +259,17 @@ impl<'r, L: FullLogBrand, R: Wait, A: Allocator + Copy> StepMaker for Desk<'r, L
     }
 
     fn owner(&self, page: PageNo) -> Option<Owner> {
-        self.access.owner(self.rt, page)
+        match &self.access {
+            Access::Book(book) if page.0 < book.pages() => Some(book.owner(page)),
+            Access::Book(_) => None,
+            Access::Lock(shared) => shared.owner(self.rt, page),
+        }
     }
 
     fn counts(&self) -> Counts {
-        self.access.counts(self.rt)
+        match &self.access {
+            Access::Book(book) => book.counts(),
+            Access::Lock(shared) => shared.counts(self.rt),
+        }
     }
 }

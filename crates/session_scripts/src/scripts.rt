@@ -2,9 +2,8 @@
 //!
 //! Each is played on a bench, through a book and behind a lock, and answers each time as stands in it. Then it is played once for each growth
 //! of memory that it has on a bench, and that it has through a book from the opening to the end, which is refused; and once on a bench with no
-//! memory for the calls that take none. The first difference is told with the file, the line, what stands there and what came.
+//! memory for the calls that take none. The first difference is told, and the file and the line where it is.
 
-mod bench;
 mod book;
 mod fault;
 mod player;
@@ -13,24 +12,24 @@ mod report;
 mod standing;
 mod threads;
 mod visit;
-mod way;
 
-use bench::{BenchEnd, BenchPlayer, WithoutMemory};
-use book::{BookEnd, BookPlayer};
-use fault::{Fault, Wrong};
-use player::{play_whole, refuse_each};
-use report::{print_line, print_runs};
+use fault::{Fault, Way, Wrong};
+use player::{play_run, refuse_each};
+use refused::{End, Run};
+use report::print_line;
 pub use report::{Scores, print_sum};
 use script_cli::transcripts::{Transcript, read_transcript};
-use standing::DeskStanding;
+use standing::Standing;
 use std::alloc::AllocGlobal;
 use std::rt::Files;
 use std::sync::Wait;
 use std::thread::Threads;
 use std::{fs, io};
 use threads::refuse_each_in_threads;
-use visit::VisitPlayer;
-use way::Way;
+
+/// So many growths of a run of threads are told at most: how many there are depends on which commands are outstanding at one time, as a host keeps the
+/// lists of those that are over.
+const MOST_TOLD: u64 = 100;
 
 /// Plays the transcript of a file in each way, prints its line and counts it. Where it is not as it says, that is told, and the answer is false.
 pub fn play_script<R: AllocGlobal + Eprint + Files + Print + Wait>(
@@ -38,9 +37,17 @@ pub fn play_script<R: AllocGlobal + Eprint + Files + Print + Wait>(
     file: &str,
     sum: &mut Scores,
 ) -> io::Result<bool> {
-    match play_file(rt, file) {
-        Ok((scores, end)) => {
-            print_line(rt, file, scores, &end)?;
+    let played = match read_file(rt, file) {
+        Ok(transcript) => play_each_way(rt, &transcript),
+        Err(wrong) => Err(Fault {
+            way: Way::Unplayed,
+            growth: 0,
+            wrong,
+        }),
+    };
+    match played {
+        Ok((scores, standing)) => {
+            print_line(rt, file, scores, &standing)?;
             sum.add(scores);
             Ok(true)
         }
@@ -56,51 +63,70 @@ fn read_file<R: AllocGlobal + Files>(rt: &R, file: &str) -> Result<Transcript, W
     let Ok(text) = fs::read_to_string(rt, file) else {
         return Err(Wrong::Unreadable);
     };
-    Ok(read_transcript(rt.alloc(), &text)?)
+    match read_transcript(rt.alloc(), &text) {
+        Ok(transcript) => Ok(transcript),
+        Err(fault) => Err(Wrong::Transcript(fault)),
+    }
 }
 
-/// Plays a transcript on a bench and through a book, which leave the pages alike.
-fn play_unrefused<'t, R: AllocGlobal + Wait>(
-    rt: &'t R,
-    transcript: &'t Transcript,
-) -> Result<(BenchEnd, BookEnd), Fault> {
-    let alloc = rt.alloc();
-    let on_bench = play_whole(alloc, &BenchPlayer::new(transcript, None))?;
-    let through_book = play_whole(alloc, &BookPlayer::new(rt, transcript, false, None))?;
-    if through_book.standing.holdings != on_bench.standing.holdings {
-        let (way, wrong) = (Way::Book(0), Wrong::Standing);
-        return Err(Fault { way, wrong });
+/// Plays a transcript on a bench and through a book, which leave the pages alike, and then again. It answers how much was played, and how the book
+/// stood at the end.
+fn play_each_way<R: AllocGlobal + Eprint + Wait>(
+    rt: &R,
+    transcript: &Transcript,
+) -> Result<(Scores, Standing), Fault> {
+    let run = Run {
+        way: Way::Bench,
+        growth: 0,
+        transcript,
+        wanted: None,
+    };
+    let way = Way::Book;
+    let on_bench = play_run(rt, run)?;
+    let through_book = play_run(rt, Run { way, ..run })?;
+    let (book, bench) = (&through_book.standing, &on_bench.standing);
+    if book.owners.as_slice() != bench.owners.as_slice() || book.counts != bench.counts {
+        return Err(Fault {
+            way,
+            growth: 0,
+            wrong: Wrong::Standing,
+        });
     }
-    Ok((on_bench, through_book))
+    let scores = play_again(rt, run, &on_bench, &through_book)?;
+    Ok((scores, through_book.standing))
 }
 
 /// Plays a transcript behind a lock, and with its growths refused, which must leave what it left before. It answers how much was played.
-fn play_again<'t, R: AllocGlobal + Wait>(
-    rt: &'t R,
-    transcript: &'t Transcript,
-    on_bench: &'t BenchEnd,
-    through_book: &'t BookEnd,
+fn play_again<'t, R: AllocGlobal + Eprint + Wait>(
+    rt: &R,
+    run: Run<'t>,
+    on_bench: &'t End,
+    through_book: &'t End,
 ) -> Result<Scores, Fault> {
-    let alloc = rt.alloc();
-    let wanted = Some(through_book);
-    play_whole(alloc, &BookPlayer::new(rt, transcript, true, wanted))?;
+    let on_bench = Run {
+        wanted: Some(on_bench),
+        ..run
+    };
+    let through_book = Run {
+        way: Way::Book,
+        wanted: Some(through_book),
+        ..run
+    };
+    let way = Way::Lock;
+    play_run(
+        rt,
+        Run {
+            way,
+            ..through_book
+        },
+    )?;
+    let way = Way::WithoutMemory;
     Ok(Scores {
         scripts: 1,
-        on_bench: refuse_each(alloc, &BenchPlayer::new(transcript, Some(on_bench)))?,
-        through_book: refuse_each(alloc, &BookPlayer::new(rt, transcript, false, wanted))?,
-        without_memory: play_whole(alloc, &WithoutMemory::new(transcript, on_bench))?,
+        on_bench: refuse_each(rt, on_bench)?,
+        through_book: refuse_each(rt, through_book)?,
+        without_memory: play_run(rt, Run { way, ..on_bench })?.without_memory,
     })
-}
-
-/// Plays the transcript of a file in each way. It answers how much was played, and how the book stood at the end.
-fn play_file<R: AllocGlobal + Files + Wait>(
-    rt: &R,
-    file: &str,
-) -> Result<(Scores, DeskStanding), Fault> {
-    let transcript = Fault::at(Way::Unplayed, read_file(rt, file))?;
-    let (on_bench, through_book) = play_unrefused(rt, &transcript)?;
-    let scores = play_again(rt, &transcript, &on_bench, &through_book)?;
-    Ok((scores, through_book.standing))
 }
 
 /// Refuses each growth of a draft that visits another book, and of two submitters with a poller and a controller in threads, and prints how many
@@ -110,7 +136,10 @@ pub fn refuse_growths<R: AllocGlobal + Eprint + Print + Sync + Threads + Wait>(
 ) -> io::Result<bool> {
     match each_growth(rt) {
         Ok((visit, threads)) => {
-            print_runs(rt, threads, visit)?;
+            let told = threads.min(MOST_TOLD);
+            println!(rt;
+                "{told} growths or more refused in a run of threads, {visit} of a draft at another book"
+            )?;
             Ok(true)
         }
         Err(fault) => {
@@ -121,9 +150,22 @@ pub fn refuse_growths<R: AllocGlobal + Eprint + Print + Sync + Threads + Wait>(
 }
 
 /// How many growths a visit has, and a run of threads. Each was refused.
-fn each_growth<R: AllocGlobal + Sync + Threads + Wait>(rt: &R) -> Result<(u64, u64), Fault> {
-    let alloc = rt.alloc();
-    let visit = refuse_each(alloc, &VisitPlayer { rt })?;
-    let threads = refuse_each_in_threads(rt, alloc)?;
-    Ok((visit, threads))
+fn each_growth<R: AllocGlobal + Eprint + Sync + Threads + Wait>(
+    rt: &R,
+) -> Result<(u64, u64), Fault> {
+    let (way, growth) = (Way::Visit, 0);
+    let transcript = match read_transcript(rt.alloc(), visit::BUILT) {
+        Ok(transcript) => transcript,
+        Err(fault) => {
+            let wrong = Wrong::Transcript(fault);
+            return Err(Fault { way, growth, wrong });
+        }
+    };
+    let run = Run {
+        way,
+        growth,
+        transcript: &transcript,
+        wanted: None,
+    };
+    Ok((refuse_each(rt, run)?, refuse_each_in_threads(rt)?))
 }

@@ -33,7 +33,7 @@ fn start<R: AllocGlobal + Clock + Env + Eprint + Files + Print + Sync + Threads 
     rt: &R,
 ) -> io::Result<bool> {
     let words: Vec<String> = std::env::args(rt)?.collect(rt.alloc())?;
-    let mut sum = Scores::default();
+    let mut sum = Scores::NONE;
     let mut good = true;
     for word in words.iter().skip(1) {
         if !play(rt, word.as_str(), &mut sum)? {
@@ -58,7 +58,7 @@ fn play<R: AllocGlobal + Clock + Eprint + Files + Print + Sync + Threads + Wait>
     }
     if word == "sum" {
         print_sum(rt, *sum)?;
-        *sum = Scores::default();
+        *sum = Scores::NONE;
         return Ok(true);
     }
     if word.ends_with(".case") {

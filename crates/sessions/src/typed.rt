@@ -2,7 +2,6 @@
 //!
 //! The commands are `nvmesgl ..`, `cat FILE`, and either with `; echo $?` behind it.
 
-mod command;
 mod play;
 mod printed;
 mod terminal;

@@ -174,7 +174,7 @@ impl Hand<'_> {
     }
 
     /// Collects a command, and answers how it ended. Where it is refused that is said.
-    fn collect(&mut self, command: (u16, u16)) -> Result<Option<Status>, AllocError> {
+    fn collect_own(&mut self, command: (u16, u16)) -> Result<Option<Status>, AllocError> {
         let reply = self.on_command(CommandVerb::Collect, command)?;
         if let Reply::Collected { status, .. } = reply {
             self.tell_on_command(CommandVerb::Collect, command, &reply)?;
@@ -204,7 +204,7 @@ impl Hand<'_> {
         if !self.await_own(command)? {
             return Ok(None);
         }
-        match self.collect(command)? {
+        match self.collect_own(command)? {
             Some(status) => Ok(Some((command, status))),
             None => Ok(None),
         }

@@ -33,27 +33,24 @@ pub struct Outcome<A: Allocator = Global> {
     pub refusals: usize,
 }
 
-/// The owner of each page.
-fn owners_of<L: LogBrand, A: Allocator + Copy>(
-    alloc: A,
+/// Puts down the owner of each page of a book, and answers how many entries of its log are refusals.
+fn look_at<L: LogBrand, A: Allocator + Copy>(
     book: &Book<L, A>,
-) -> Result<Vec<Owner, A>, RunFault> {
-    let mut owners = Vec::new(alloc);
+    owners: &mut Vec<Owner, A>,
+) -> Result<usize, AllocError> {
     for p in 0..book.pages() {
-        if owners.push(book.owner(PageNo(p))).is_err() {
-            return Err(RunFault::Memory);
+        owners.push(book.owner(PageNo(p)))?;
+    }
+    let log = book.log();
+    let mut refusals = 0usize;
+    for index in 0..log.len() {
+        if let Some(entry) = log.get(index) {
+            if matches!(entry.answer, Reply::Refused { .. }) {
+                refusals = refusals.saturating_add(1);
+            }
         }
     }
-    Ok(owners)
-}
-
-/// How many entries of a book's log are refusals.
-fn refusals_of<L: LogBrand, A: Allocator + Copy>(book: &Book<L, A>) -> usize {
-    let log = book.log();
-    (0..log.len())
-        .filter_map(|index| log.get(index))
-        .filter(|entry| matches!(entry.answer, Reply::Refused { .. }))
-        .count()
+    Ok(refusals)
 }
 
 /// Runs jobs over a new book.
@@ -85,13 +82,20 @@ fn outcome_of<
 {
     let ran: Ran<L, A> = run_threads(rt, alloc, config, image, jobs, depth, server, gate, blank)?;
     let Ran { report, jobs, book } = ran;
-    Ok(Outcome {
-        report,
-        jobs,
-        owners: owners_of(alloc, &book)?,
-        entries: book.log().len(),
-        refusals: refusals_of(&book),
-    })
+    let mut owners = Vec::new(alloc);
+    let refusals = look_at(&book, &mut owners);
+    let entries = book.log().len();
+    book.end();
+    match refusals {
+        Ok(refusals) => Ok(Outcome {
+            report,
+            jobs,
+            owners,
+            entries,
+            refusals,
+        }),
+        Err(AllocError) => Err(RunFault::Memory),
+    }
 }
 
 /// Runs jobs over a new book, whose image has so many zero blocks, each submitter with so many in flight at most, where this one serves.
@@ -141,18 +145,6 @@ pub fn play<A: Allocator + Copy + Send + Sync, G: Gate + Sync, R: Threads + Wait
     play_at(rt, alloc, config, blocks, jobs, 1, Server::Ringer, gate)
 }
 
-/// So many pieces of one block each.
-fn pieces<A: Allocator + Copy>(alloc: A, blocks: u32) -> Result<Pieces<A>, AllocError> {
-    let mut pieces = Pieces::new(alloc);
-    for _ in 0..blocks {
-        pieces.push(Piece::Data {
-            offset: 0,
-            len: 512,
-        })?;
-    }
-    Ok(pieces)
-}
-
 /// A job of so many blocks, each in a piece of its own.
 pub fn job<A: Allocator + Copy>(
     alloc: A,
@@ -162,6 +154,13 @@ pub fn job<A: Allocator + Copy>(
     blocks: u32,
     bytes: &[u8],
 ) -> Result<JobIn<A>, AllocError> {
+    let mut pieces = Pieces::new(alloc);
+    for _ in 0..blocks {
+        pieces.push(Piece::Data {
+            offset: 0,
+            len: 512,
+        })?;
+    }
     Ok(Job {
         q,
         request: Request {
@@ -171,7 +170,7 @@ pub fn job<A: Allocator + Copy>(
             block_size: BlockSize::Bytes512,
             slba,
             blocks,
-            pieces: pieces(alloc, blocks)?,
+            pieces,
         },
         bytes: Bytes::from_vec(Vec::from_slice(alloc, bytes)?),
     })

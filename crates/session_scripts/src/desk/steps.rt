@@ -1,6 +1,6 @@
 //! The steps that commands make by themselves, without a book.
 
-use crate::desk::answers::{Answer, refused};
+use crate::desk::answers::{Answer, kept, refused};
 use crate::desk::values::{Value, draft_of, finished_of};
 use std::alloc::{AllocError, Allocator};
 use step_core::{Bytes, Refusal, Reply};
@@ -14,12 +14,11 @@ pub fn fill<A: Allocator>(values: &mut Vec<Value<A>>, q: u16, cid: u16, bytes: &
     let Some(mut draft) = draft_of(values, q, cid) else {
         return Ok(Reply::NoValue);
     };
-    let filled = draft.fill_padded(bytes);
-    values.push(Value::Draft(draft))?;
-    match filled {
-        Ok(()) => Ok(Reply::Accepted),
-        Err(fault) => Ok(Reply::NotFilled(fault)),
-    }
+    let reply = match draft.fill_padded(bytes) {
+        Ok(()) => Reply::Accepted,
+        Err(fault) => Reply::NotFilled(fault),
+    };
+    kept(values, Value::Draft(draft), reply)
 }
 
 /// Builds a draft.
@@ -36,12 +35,11 @@ pub fn build<A: Allocator + Copy>(
     let Some(mut draft) = draft_of(values, q, cid) else {
         return Ok(Reply::NoValue);
     };
-    let built = draft.build(heap);
-    values.push(Value::Draft(draft))?;
-    match built {
-        Ok(()) => Ok(Reply::Accepted),
-        Err(AllocError) => Ok(refused(Refusal::Memory)),
-    }
+    let reply = match draft.build(heap) {
+        Ok(()) => Reply::Accepted,
+        Err(AllocError) => refused(Refusal::Memory),
+    };
+    kept(values, Value::Draft(draft), reply)
 }
 
 /// Gathers the bytes of a finished command.
@@ -58,10 +56,9 @@ pub fn gather<A: Allocator + Copy>(
     let Some(finished) = finished_of(values, q, cid) else {
         return Ok(Reply::NoValue);
     };
-    let gathered = finished.gather(heap);
-    values.push(Value::Finished(finished))?;
-    match gathered {
-        Ok(bytes) => Ok(Reply::Gathered(Bytes::from_vec(bytes))),
-        Err(AllocError) => Ok(refused(Refusal::Memory)),
-    }
+    let reply = match finished.gather(heap) {
+        Ok(bytes) => Reply::Gathered(Bytes::from_vec(bytes)),
+        Err(AllocError) => refused(Refusal::Memory),
+    };
+    kept(values, Value::Finished(finished), reply)
 }

@@ -10,25 +10,17 @@ use page_ledger::{Counts, Owner};
 use page_memory::Half;
 use std::alloc::{AllocError, Allocator};
 
-/// Three jobs of one block each, from block `first` on; where they are Writes, of this byte and the two behind it.
-fn put_three<A: Allocator + Copy>(
-    alloc: A,
-    jobs: &mut Vec<JobIn<A>, A>,
-    q: u16,
-    kind: Kind,
-    first: u64,
-    byte: u8,
-) -> Result<(), AllocError> {
-    for i in 0..3u8 {
-        let slba = first.wrapping_add(u64::from(i));
-        let bytes = [byte.wrapping_add(i)];
-        let bytes: &[u8] = if kind == Kind::Write { &bytes } else { &[] };
-        jobs.push(job(alloc, q, kind, slba, 1, bytes)?)?;
-    }
-    Ok(())
-}
+/// The jobs of a submitter: what each does, and which of its three blocks it is of.
+const JOBS: [(Kind, u8); 6] = [
+    (Kind::Write, 0),
+    (Kind::Write, 1),
+    (Kind::Write, 2),
+    (Kind::Read, 0),
+    (Kind::Read, 1),
+    (Kind::Read, 2),
+];
 
-/// Three Writes of a block from `first` on, and the Reads of these blocks.
+/// Three Writes of a block from `first` on, of this byte and the two that follow it, and the Reads of these blocks.
 pub fn writes_and_reads<A: Allocator + Copy>(
     alloc: A,
     q: u16,
@@ -36,8 +28,12 @@ pub fn writes_and_reads<A: Allocator + Copy>(
     byte: u8,
 ) -> Result<Vec<JobIn<A>, A>, AllocError> {
     let mut jobs = Vec::new(alloc);
-    put_three(alloc, &mut jobs, q, Kind::Write, first, byte)?;
-    put_three(alloc, &mut jobs, q, Kind::Read, first, byte)?;
+    for (kind, place) in JOBS {
+        let slba = first.wrapping_add(u64::from(place));
+        let bytes = [byte.wrapping_add(place)];
+        let bytes: &[u8] = if kind == Kind::Write { &bytes } else { &[] };
+        jobs.push(job(alloc, q, kind, slba, 1, bytes)?)?;
+    }
     Ok(jobs)
 }
 
@@ -58,40 +54,23 @@ pub fn two_lists<A: Allocator + Copy>(
     Ok(lists)
 }
 
-/// A block that begins with a byte, with zeros behind it.
-fn block(byte: u8) -> [u8; 512] {
-    let mut block = [0; 512];
-    block[0] = byte;
-    block
-}
-
 /// Whether these are the ends of three such Writes and Reads.
 fn are_written_and_read<A: Allocator>(ends: &[JobEndIn<A>], byte: u8) -> bool {
-    ends.len() == 6
-        && ends
-            .iter()
-            .take(3)
-            .all(|end| is_done(end, Status::SUCCESS, &[]))
-        && ends.iter().skip(3).zip(0..3u8).all(|(end, i)| {
-            is_done(end, Status::SUCCESS, &block(byte.wrapping_add(i)))
-        })
+    let mut ended = 0;
+    for end in ends {
+        let mut block = [0; 512];
+        block[0] = byte.wrapping_add(ended % 3);
+        let bytes: &[u8] = if ended < 3 { &[] } else { &block };
+        if !is_done(end, Status::SUCCESS, bytes) {
+            return false;
+        }
+        ended = ended.saturating_add(1u8);
+    }
+    ended == 6
 }
 
-/// Whether the Writes and Reads of two submitters, of these bytes, came to their ends, with ten entries of the log for each: one reserve,
-/// submit, ring, fetch, complete, reap, collect and release, and two steps of its walk. Nothing was refused.
-pub fn are_ended<A: Allocator>(outcome: &Outcome<A>, bytes: [u8; 2]) -> bool {
-    let lists = outcome.jobs.as_slice();
-    lists.len() == 2
-        && lists
-            .iter()
-            .zip(bytes)
-            .all(|(ends, byte)| are_written_and_read(ends, byte))
-        && outcome.refusals == 0
-        && outcome.entries == 12 * 10
-}
-
-/// Who has the first four pages.
-const QUEUES: [Owner; 4] = [
+/// Who has each page: the first four are those of the queues.
+const OWNERS: [Owner; 16] = [
     Owner::Queue {
         q: 0,
         half: Half::Submission,
@@ -108,17 +87,19 @@ const QUEUES: [Owner; 4] = [
         q: 1,
         half: Half::Completion,
     },
+    Owner::Free,
+    Owner::Free,
+    Owner::Free,
+    Owner::Free,
+    Owner::Free,
+    Owner::Free,
+    Owner::Free,
+    Owner::Free,
+    Owner::Free,
+    Owner::Free,
+    Owner::Free,
+    Owner::Free,
 ];
-
-/// Whether the first four pages are those of the queues, and the others are free.
-fn are_given_back(owners: &[Owner]) -> bool {
-    owners.len() == 16
-        && owners
-            .iter()
-            .zip(QUEUES)
-            .all(|(owner, queue)| *owner == queue)
-        && owners.iter().skip(4).all(|owner| *owner == Owner::Free)
-}
 
 /// Pages of the queues alone.
 const COUNTS: Counts = Counts {
@@ -128,14 +109,24 @@ const COUNTS: Counts = Counts {
     data_pages: 0,
 };
 
-/// Whether two submitters on one queue left what they must: their jobs came to their ends, no command has a page, and the report counts twelve
+/// Whether two submitters on one queue left what they must. Their jobs came to their ends, and nothing was refused: the log has ten entries for each,
+/// one reserve, submit, ring, fetch, complete, reap, collect and release, and two steps of its walk. No command has a page, and the report counts twelve
 /// submissions, six for each of two seats.
 pub fn is_as_wanted<A: Allocator>(outcome: &Outcome<A>) -> bool {
+    let [first, second] = outcome.jobs.as_slice() else {
+        return false;
+    };
     let report = &outcome.report;
-    let mut receipts = report.receipts.as_slice().iter();
-    are_ended(outcome, [0xA0, 0xB0])
-        && are_given_back(&outcome.owners)
+    for receipts in report.receipts.as_slice() {
+        if receipts.len() != 6 {
+            return false;
+        }
+    }
+    are_written_and_read(first, 0xA0)
+        && are_written_and_read(second, 0xB0)
+        && outcome.refusals == 0
+        && outcome.entries == 12 * 10
+        && outcome.owners.as_slice() == OWNERS.as_slice()
         && report.counts == COUNTS
         && report.submissions == 12
-        && receipts.all(|list| list.len() == 6)
 }

@@ -1,7 +1,6 @@
 //! Commands that a desk keeps: each is a draft, a ticket or a finished command.
 
 use io_commands::{Draft, Finished, Ticket};
-use page_memory::Page;
 use std::alloc::{Allocator, Global};
 use step_core::{Ended, Leftover};
 
@@ -29,16 +28,16 @@ pub enum Value<A: Allocator = Global> {
 impl<A: Allocator> Value<A> {
     /// Whether it has come so far, and is of this queue and identifier.
     fn is(&self, what: What, q: u16, cid: u16) -> bool {
-        let own = match self {
+        let (own, own_q, own_cid) = match self {
             Value::Draft(draft) => (What::Draft, draft.q(), draft.cid()),
             Value::Ticket(ticket) => (What::Ticket, ticket.q(), ticket.cid()),
             Value::Finished(finished) => (What::Finished, finished.q(), finished.cid()),
         };
-        own == (what, q, cid)
+        own == what && own_q == q && own_cid == cid
     }
 
     /// The draft, if it is one.
-    pub fn into_draft(self) -> Option<Draft<A>> {
+    fn into_draft(self) -> Option<Draft<A>> {
         match self {
             Value::Draft(draft) => Some(draft),
             _ => None,
@@ -46,7 +45,7 @@ impl<A: Allocator> Value<A> {
     }
 
     /// The ticket, if it is one.
-    pub fn into_ticket(self) -> Option<Ticket> {
+    fn into_ticket(self) -> Option<Ticket> {
         match self {
             Value::Ticket(ticket) => Some(ticket),
             _ => None,
@@ -58,23 +57,6 @@ impl<A: Allocator> Value<A> {
         match self {
             Value::Finished(finished) => Some(finished),
             _ => None,
-        }
-    }
-
-    /// The pages that it has out of the store.
-    pub fn pages(&self) -> &[Page<A>] {
-        match self {
-            Value::Draft(draft) => draft.pages(),
-            Value::Ticket(_) => &[],
-            Value::Finished(finished) => finished.pages(),
-        }
-    }
-
-    /// Whether it is a draft that is built.
-    pub fn is_built(&self) -> bool {
-        match self {
-            Value::Draft(draft) => draft.entry().is_some(),
-            _ => false,
         }
     }
 }
@@ -107,8 +89,18 @@ fn taken<A: Allocator>(
     q: u16,
     cid: u16,
 ) -> Option<Value<A>> {
-    let place = values.iter().position(|value| value.is(what, q, cid))?;
-    Some(values.remove(place))
+    let mut place = 0usize;
+    for value in values.iter() {
+        if value.is(what, q, cid) {
+            break;
+        }
+        place = place.saturating_add(1);
+    }
+    if place < values.len() {
+        Some(values.remove(place))
+    } else {
+        None
+    }
 }
 
 /// Takes a draft away, where it is about.

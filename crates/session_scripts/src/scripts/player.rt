@@ -1,64 +1,63 @@
 //! Something is played in a heap of its own, and once for each of its growths, which is refused.
 
-use crate::scripts::fault::{Fault, Wrong};
+use crate::scripts::book::through_book;
+use crate::scripts::fault::{Fault, Way, Wrong};
+use crate::scripts::refused::{End, Run, play_refused};
 use crate::scripts::standing::Heap;
-use crate::scripts::way::Way;
-use std::alloc::Global;
+use script_cli::transcripts::OnBench;
+use std::alloc::{AllocGlobal, Global};
+use std::sync::Wait;
 use test_support::Refusing;
 
 /// More growths than anything here has.
 pub const MANY: u64 = 5_000;
 
-/// What is played in a heap of its own.
-pub trait Player {
-    /// What it leaves.
-    type End: Drop;
-
-    /// How it is played where this growth is refused. Growths are counted from 1; at 0 none is refused.
-    fn way(&self, growth: u64) -> Way;
-
-    /// Plays it in a heap with this growth refused; what is noted down stands elsewhere. It answers what it leaves, and whether there was such a growth.
-    ///
-    /// # Errors
-    ///
-    /// The first of it that is wrong.
-    fn play<'h>(
-        &self,
-        alloc: Global,
-        heap: &'h Heap,
-        growth: u64,
-    ) -> Result<(Self::End, bool), Wrong>;
+/// Plays a script on a bench: with one growth of its steps refused, or with no memory for the steps that take none.
+fn on_bench<'h, R: Eprint>(
+    rt: &R,
+    alloc: Global,
+    heap: &'h Heap,
+    run: Run<'_>,
+) -> Result<End, Wrong> {
+    let mut bench = match OnBench::open(alloc, heap, run.transcript.options()) {
+        Ok(bench) => bench,
+        Err(why) => return Err(Wrong::Opening(why)),
+    };
+    let played = play_refused(rt, alloc, &mut bench, run, run.growth);
+    let OnBench {
+        alloc: _,
+        heap: _,
+        bench,
+    } = bench;
+    let _ended = bench.end();
+    played
 }
 
-/// Sees that nothing stands in a heap any more.
-pub fn see_empty(way: Way, heap: &Heap) -> Result<(), Fault> {
-    if heap.tally().blocks != 0 {
-        let wrong = Wrong::Leaked;
-        return Err(Fault { way, wrong });
-    }
-    Ok(())
-}
-
-/// Plays something with one growth refused. At the end the heap is empty.
-fn play_with<P: Player>(alloc: Global, player: &P, growth: u64) -> Result<(P::End, bool), Fault> {
+/// Plays a script, and sees that it leaves what it must, and an empty heap.
+pub fn play_run<R: AllocGlobal + Eprint + Wait>(rt: &R, run: Run<'_>) -> Result<End, Fault> {
+    let Run { way, growth, .. } = run;
+    let alloc = rt.alloc();
     let heap = Refusing::new(alloc);
-    let way = player.way(growth);
-    let played = Fault::at(way, player.play(alloc, &heap, growth))?;
-    see_empty(way, &heap)?;
-    Ok(played)
+    let played = match way {
+        Way::Bench | Way::WithoutMemory => on_bench(rt, alloc, &heap, run),
+        _ => through_book(rt, alloc, &heap, run),
+    };
+    let wrong = match played {
+        Ok(end) => match end.wrong(run.wanted) {
+            Some(wrong) => wrong,
+            None if heap.tally().blocks == 0 => return Ok(end),
+            None => Wrong::Leaked,
+        },
+        Err(wrong) => wrong,
+    };
+    Err(Fault { way, growth, wrong })
 }
 
-/// Plays something with no growth refused, and answers what it leaves.
-pub fn play_whole<P: Player>(alloc: Global, player: &P) -> Result<P::End, Fault> {
-    let (end, _) = play_with(alloc, player, 0)?;
-    Ok(end)
-}
-
-/// Plays something once for each growth that it has, and answers how many those are.
-pub fn refuse_each<P: Player>(alloc: Global, player: &P) -> Result<u64, Fault> {
+/// Plays a script once for each growth that it has, which is refused, and answers how many those are.
+pub fn refuse_each<R: AllocGlobal + Eprint + Wait>(rt: &R, run: Run<'_>) -> Result<u64, Fault> {
     for growth in 1..MANY {
-        let (_, was_there) = play_with(alloc, player, growth)?;
-        if !was_there {
+        let end = play_run(rt, Run { growth, ..run })?;
+        if end.left > 0 {
             return Ok(growth - 1);
         }
     }

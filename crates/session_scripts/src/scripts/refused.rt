@@ -1,150 +1,189 @@
 //! Steps that are made while memory is refused.
 
-use crate::scripts::fault::Wrong;
-use crate::scripts::standing::Stands;
-use script_cli::transcripts::{Difference, StepMaker, Transcript, play};
+use crate::scripts::fault::{Way, Wrong};
+use crate::scripts::standing::{Standing, Stands};
+use script_cli::transcripts::{StepMaker, Transcript, play};
 use std::alloc::{AllocError, Global};
 use step_core::{Counts, Owner, PageNo, Reply, Step};
 use test_support::Refusal;
 
+/// A script that is played.
+#[derive(Clone, Copy)]
+pub struct Run<'t> {
+    /// How it is played.
+    pub way: Way,
+    /// Which growth is refused, counted from 1. At 0 none is.
+    pub growth: u64,
+    /// The script.
+    pub transcript: &'t Transcript,
+    /// What it must leave, where that is known. That tells how many growths each step has, too.
+    pub wanted: Option<&'t End>,
+}
+
 /// What a script leaves.
 #[derive(Drop)]
-pub struct End<S> {
+pub struct End {
     /// How what made its steps stands then.
-    pub standing: S,
+    pub standing: Standing,
+    /// How many growths are left to the one that is refused; 0 where it was refused.
+    pub left: u64,
+    /// How many steps were made without memory, as they take none.
+    pub without_memory: u64,
     /// The pages that refused steps touched.
     touched: Vec<PageNo>,
     /// How many growths each step had.
     growths: Vec<u64>,
 }
 
-impl<S: PartialEq> End<S> {
-    /// Sees that it is what a script must leave, where that is known. A step that was made once more counts its growths twice.
-    pub fn see(&self, wanted: Option<&End<S>>) -> Result<(), Wrong> {
-        let Some(wanted) = wanted else {
-            return Ok(());
-        };
+impl End {
+    /// What is wrong with it, where it is known what a script must leave. A step that was made once more counts its growths twice.
+    pub fn wrong(&self, wanted: Option<&End>) -> Option<Wrong> {
+        let wanted = wanted?;
         if self.standing != wanted.standing {
-            return Err(Wrong::Standing);
+            return Some(Wrong::Standing);
         }
         if self.touched.as_slice() != wanted.touched.as_slice() {
-            return Err(Wrong::Touched);
+            return Some(Wrong::Touched);
         }
-        Ok(())
+        None
     }
 }
 
-/// Sees that there is no difference.
-pub fn as_it_says(found: Option<Difference>) -> Result<(), Wrong> {
-    match found {
-        Some(difference) => Err(Wrong::Difference(difference)),
-        None => Ok(()),
-    }
-}
-
-/// Plays a script with one of the growths to come refused. It answers what that leaves, and how many growths are left to that one. Where it is
-/// known what the script must leave, that tells how many growths each step has.
-pub fn play_refused<M: Stands>(
+/// Plays a script with one of the growths to come refused, or where it is played without memory each growth of the steps that take none.
+pub fn play_refused<M: Stands, R: Eprint>(
+    rt: &R,
     alloc: Global,
     maker: &mut M,
-    transcript: &Transcript,
+    run: Run<'_>,
     left: u64,
-    wanted: Option<&End<M::Standing>>,
-) -> Result<(End<M::Standing>, u64), Wrong> {
-    let known: &[u64] = match wanted {
+) -> Result<End, Wrong> {
+    let known: &[u64] = match run.wanted {
         Some(end) => &end.growths,
         None => &[],
     };
-    let mut refused = OneRefused {
+    let mut steps = Steps {
         alloc,
         maker,
+        takes_all: matches!(run.way, Way::WithoutMemory),
         left,
         known,
         growths: Vec::new(alloc),
-        changed: false,
+        without_memory: 0,
+        wrong: None,
         touched: Vec::new(alloc),
     };
-    let found = play(alloc, &mut refused, transcript);
-    let OneRefused {
+    let found = play(alloc, &mut steps, run.transcript);
+    let Steps {
         alloc: _,
         maker,
+        takes_all: _,
         left,
         known: _,
         growths,
-        changed,
+        without_memory,
+        wrong,
         touched,
-    } = refused;
-    as_it_says(found?)?;
-    if changed {
-        return Err(Wrong::Changed);
+    } = steps;
+    if let Some(wrong) = wrong {
+        return Err(wrong);
     }
-    let end = End {
-        standing: maker.standing(alloc)?,
-        touched,
-        growths,
-    };
-    Ok((end, left))
+    match found {
+        Ok(None) => {}
+        Ok(Some(difference)) => {
+            let _told = eprintln!(rt; "{difference}");
+            return Err(Wrong::Line(difference.number));
+        }
+        Err(AllocError) => return Err(Wrong::Memory),
+    }
+    match maker.standing(alloc) {
+        Ok(standing) => Ok(End {
+            standing,
+            left,
+            without_memory,
+            touched,
+            growths,
+        }),
+        Err(AllocError) => Err(Wrong::Memory),
+    }
 }
 
-/// Makes steps with one growth refused. A step that wants memory is made once more.
-struct OneRefused<'m, M: Stands> {
+/// Makes steps while growths are refused. A step that wants memory is made once more.
+struct Steps<'m, M: Stands> {
     /// Where what is noted down stands.
     alloc: Global,
     /// What makes them.
     maker: &'m mut M,
+    /// Whether each growth is refused of the steps that take no memory.
+    takes_all: bool,
     /// Which of the growths to come is refused, counted from 1. At 0 none is.
     left: u64,
     /// How many growths each step has where none is refused, as far as that is known.
     known: &'m [u64],
     /// How many growths each step had that was made.
     growths: Vec<u64>,
-    /// Whether something had changed where a step wanted memory.
-    changed: bool,
+    /// How many steps were made of which each growth was refused.
+    without_memory: u64,
+    /// What a step did that it must not, if one did.
+    wrong: Option<Wrong>,
     /// The pages that steps touched before they were refused.
     touched: Vec<PageNo>,
 }
 
-/// Whether a reply is want of memory.
-fn is_memory(reply: &Reply) -> bool {
-    matches!(reply, Reply::Refused { why, touched: _ } if *why == step_core::Refusal::Memory)
-}
-
-impl<'m, M: Stands> OneRefused<'m, M> {
-    /// Whether a growth of the next step may be refused, as far as is known.
-    fn is_next(&self) -> bool {
-        match self.known.get(self.growths.len()) {
-            Some(growths) => self.left > 0 && self.left <= *growths,
-            None => self.left > 0,
-        }
-    }
-
-    /// Makes a step. Where it wants memory it is seen whether anything has changed, and it is made once more.
-    fn make_twice(&mut self, step: &Step) -> Result<Reply, AllocError> {
-        let before = self.maker.standing(self.alloc)?;
-        let answer = self.make(step)?;
-        if self.left > 0 || !is_memory(&answer) {
-            return Ok(answer);
-        }
-        if self.maker.standing(self.alloc)? != before {
-            self.changed = true;
-        }
-        self.make(step)
-    }
-
-    /// Makes a step with a growth of it refused, if it is there.
+impl<'m, M: Stands> Steps<'m, M> {
+    /// Makes a step with a growth of it refused, if it is there. The eight calls of a world that send, submit, reap or reset take no memory.
     fn make(&mut self, step: &Step) -> Result<Reply, AllocError> {
-        let refusal = Refusal::Nth(self.left);
+        let takes_none = matches!(
+            step,
+            Step::Submit { .. }
+                | Step::Reap { .. }
+                | Step::Abort { .. }
+                | Step::DeleteSq { .. }
+                | Step::DeleteCq { .. }
+                | Step::CreateCq { .. }
+                | Step::CreateSq { .. }
+                | Step::Reset
+        );
+        let is_without = self.takes_all && takes_none;
+        let refusal = if is_without {
+            Refusal::NthOn(1)
+        } else {
+            Refusal::Nth(self.left)
+        };
         let (answer, tally) = self.maker.step_without(refusal, step)?;
+        if is_without {
+            self.without_memory = self.without_memory.saturating_add(1);
+            if tally.calls > 0 {
+                self.wrong = Some(Wrong::Asked);
+            }
+        }
         self.left = self.left.saturating_sub(tally.calls);
         self.growths.push(tally.calls)?;
         Ok(answer)
     }
+
+    /// Makes a step of which a growth may be refused. Where it wants memory it is seen whether anything has changed, and it is made once more.
+    fn make_twice(&mut self, step: &Step) -> Result<Reply, AllocError> {
+        let before = self.maker.standing(self.alloc)?;
+        let answer = self.make(step)?;
+        match &answer {
+            Reply::Refused { why, .. } if self.left == 0 && *why == step_core::Refusal::Memory => {}
+            _ => return Ok(answer),
+        }
+        if self.maker.standing(self.alloc)? != before {
+            self.wrong = Some(Wrong::Changed);
+        }
+        self.make(step)
+    }
 }
 
-impl<'m, M: Stands> StepMaker for OneRefused<'m, M> {
+impl<'m, M: Stands> StepMaker for Steps<'m, M> {
     fn step(&mut self, step: &Step) -> Result<Reply, AllocError> {
+        let is_next = match self.known.get(self.growths.len()) {
+            Some(growths) => self.left > 0 && self.left <= *growths,
+            None => self.left > 0,
+        };
         // how it stands is asked for where it matters alone, since that takes long
-        let answer = if self.is_next() {
+        let answer = if is_next {
             self.make_twice(step)?
         } else {
             self.make(step)?
@@ -152,51 +191,6 @@ impl<'m, M: Stands> StepMaker for OneRefused<'m, M> {
         if let Reply::Refused { why: _, touched } = &answer {
             self.touched.extend_from_slice(touched.pages())?;
         }
-        Ok(answer)
-    }
-
-    fn owner(&self, page: PageNo) -> Option<Owner> {
-        self.maker.owner(page)
-    }
-
-    fn counts(&self) -> Counts {
-        self.maker.counts()
-    }
-}
-
-/// Makes steps, those that take no memory while each growth is refused.
-pub struct AllRefused<'m, M: Stands> {
-    /// What makes them.
-    pub maker: &'m mut M,
-    /// How many steps took no memory.
-    pub calls: u64,
-    /// How often one of them asked for some.
-    pub asked: u64,
-}
-
-/// Whether a step is one of the eight calls of a world that send, submit, reap or reset: they take no memory.
-fn takes_no_memory(step: &Step) -> bool {
-    matches!(
-        step,
-        Step::Submit { .. }
-            | Step::Reap { .. }
-            | Step::Abort { .. }
-            | Step::DeleteSq { .. }
-            | Step::DeleteCq { .. }
-            | Step::CreateCq { .. }
-            | Step::CreateSq { .. }
-            | Step::Reset
-    )
-}
-
-impl<'m, M: Stands> StepMaker for AllRefused<'m, M> {
-    fn step(&mut self, step: &Step) -> Result<Reply, AllocError> {
-        if !takes_no_memory(step) {
-            return self.maker.step(step);
-        }
-        let (answer, tally) = self.maker.step_without(Refusal::NthOn(1), step)?;
-        self.calls = self.calls.saturating_add(1);
-        self.asked = self.asked.saturating_add(tally.calls);
         Ok(answer)
     }
 

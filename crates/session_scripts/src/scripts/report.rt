@@ -1,15 +1,10 @@
 //! What is printed.
 
-use crate::scripts::standing::DeskStanding;
-use driver_book::{CloseFault, Receipt};
+use crate::scripts::standing::Standing;
 use std::io;
 
-/// So many growths of a run of threads are told at most: how many there are depends on which commands are outstanding at one time, as a host keeps the
-/// lists of those that are over.
-const MOST_TOLD: u64 = 100;
-
 /// How much was played.
-#[derive(Clone, Copy, Debug, Default)]
+#[derive(Clone, Copy)]
 pub struct Scores {
     /// The scripts.
     pub scripts: u64,
@@ -22,6 +17,14 @@ pub struct Scores {
 }
 
 impl Scores {
+    /// Nothing was played yet.
+    pub const NONE: Scores = Scores {
+        scripts: 0,
+        on_bench: 0,
+        through_book: 0,
+        without_memory: 0,
+    };
+
     /// Adds others.
     pub fn add(&mut self, others: Scores) {
         self.scripts = self.scripts.saturating_add(others.scripts);
@@ -32,12 +35,7 @@ impl Scores {
 }
 
 /// Prints the line of a script: its growths, and what it leaves in the log and at the seat of a book, and whether that is then closed.
-pub fn print_line<R: Print>(
-    rt: &R,
-    file: &str,
-    scores: Scores,
-    end: &DeskStanding,
-) -> io::Result<()> {
+pub fn print_line<R: Print>(rt: &R, file: &str, scores: Scores, end: &Standing) -> io::Result<()> {
     let name = file.strip_suffix(".transcript").unwrap_or(file);
     let Scores {
         scripts: _,
@@ -49,36 +47,19 @@ pub fn print_line<R: Print>(
     print!(rt;
         "{name}: growths {on_bench} on a bench, {through_book} through a book; without memory {without_memory}; log {entries}"
     )?;
-    if let Some(closes) = end.closes {
-        print_closing(rt, closes)?;
+    match end.closes {
+        Some(Ok(submissions)) => print!(rt; "; closed, submissions {submissions}")?,
+        Some(Err(why)) => print!(rt; "; open, {why}")?,
+        None => {}
     }
     for receipt in &end.receipts {
-        print_receipt(rt, receipt)?;
+        let (number, q, cid) = (receipt.number, receipt.q, receipt.cid);
+        match receipt.status {
+            Some(status) => print!(rt; "; receipt {number} of {q} {cid} {status}")?,
+            None => print!(rt; "; receipt {number} of {q} {cid} -")?,
+        }
     }
     println!(rt)
-}
-
-/// Prints how a book is closed.
-fn print_closing<R: Print>(rt: &R, closes: Result<u64, CloseFault>) -> io::Result<()> {
-    match closes {
-        Ok(submissions) => print!(rt; "; closed, submissions {submissions}"),
-        Err(why) => print!(rt; "; open, {why}"),
-    }
-}
-
-/// Prints a receipt: its number, the queue and the identifier of its command, and the status, if there is one.
-fn print_receipt<R: Print>(rt: &R, receipt: &Receipt) -> io::Result<()> {
-    let Receipt {
-        number,
-        q,
-        cid,
-        asked: _,
-        status,
-    } = receipt;
-    match status {
-        Some(status) => print!(rt; "; receipt {number} of {q} {cid} {status}"),
-        None => print!(rt; "; receipt {number} of {q} {cid} -"),
-    }
 }
 
 /// Prints a sum of scripts.
@@ -89,15 +70,7 @@ pub fn print_sum<R: Print>(rt: &R, sum: Scores) -> io::Result<()> {
         through_book,
         without_memory,
     } = sum;
-    println!(rt; "{scripts} scripts, each on a bench, through a book and behind a lock")?;
-    println!(rt; "{on_bench} growths refused on a bench, {through_book} through a book")?;
-    println!(rt; "{without_memory} calls that take no memory, without memory")
-}
-
-/// Prints the growths of what is no script: of a run of threads, and of a draft that visits another book.
-pub fn print_runs<R: Print>(rt: &R, threads: u64, visit: u64) -> io::Result<()> {
-    let told = threads.min(MOST_TOLD);
     println!(rt;
-        "{told} growths or more refused in a run of threads, {visit} of a draft at another book"
+        "{scripts} scripts, each on a bench, through a book and behind a lock\n{on_bench} growths refused on a bench, {through_book} through a book\n{without_memory} calls that take no memory, without memory"
     )
 }

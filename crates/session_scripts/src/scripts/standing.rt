@@ -1,8 +1,8 @@
 //! How things stand: on a bench, and at a desk with a book.
 
-use crate::desk::{Desk, Value};
+use crate::desk::{Access, Desk, Value};
 use driver_book::{CloseFault, FullLogBrand, Receipt};
-use page_memory::MAX_PAGES;
+use page_memory::{MAX_PAGES, Page};
 use script_cli::transcripts::{OnBench, StepMaker, reply_in, step_in};
 use std::alloc::{AllocError, Allocator, Global};
 use std::sync::Wait;
@@ -17,9 +17,6 @@ pub type DeskIn<'h, L, R> = Desk<'h, L, R, &'h Heap>;
 
 /// What makes steps in a heap that refuses, and shows how it stands.
 pub trait Stands: StepMaker {
-    /// What it shows.
-    type Standing: PartialEq + Drop;
-
     /// Makes a step while these growths of the heap are refused, and answers what it answered, and what the heap was asked for.
     ///
     /// # Errors
@@ -32,19 +29,33 @@ pub trait Stands: StepMaker {
     /// # Errors
     ///
     /// Where memory is refused.
-    fn standing(&self, alloc: Global) -> Result<Self::Standing, AllocError>;
+    fn standing(&self, alloc: Global) -> Result<Standing, AllocError>;
 }
 
-/// The owner of each page, and how many pages each class has.
-#[derive(Debug, Drop, PartialEq)]
-pub struct Holdings {
-    owners: Vec<Owner>,
-    counts: Counts,
+/// How a bench stands, or a desk with a book and one seat, with the commands that it keeps.
+#[derive(Drop, PartialEq)]
+pub struct Standing {
+    /// The owner of each page.
+    pub owners: Vec<Owner>,
+    /// How many pages each class has.
+    pub counts: Counts,
+    /// Whether something was forged on a bench.
+    is_forged: bool,
+    /// How many entries the log of a book has, where it is seen: behind a lock it is as the book ends.
+    pub entries: Option<usize>,
+    /// Once a book is closed how many submissions there were, or why it is not closed.
+    pub closes: Option<Result<u64, CloseFault>>,
+    /// The receipts of the seat.
+    pub receipts: Vec<Receipt>,
+    /// The bytes of the pages that commands have, in the order of the pages.
+    bytes: Vec<u8>,
+    /// How many drafts are built.
+    built: usize,
 }
 
-impl Holdings {
-    /// Those of what makes steps.
-    pub fn of<M: StepMaker>(alloc: Global, maker: &M) -> Result<Holdings, AllocError> {
+impl Standing {
+    /// What each maker of steps shows: whose the pages are.
+    fn of<M: StepMaker>(alloc: Global, maker: &M) -> Result<Standing, AllocError> {
         let mut owners = Vec::new(alloc);
         for p in 0..MAX_PAGES {
             match maker.owner(PageNo(p)) {
@@ -52,25 +63,46 @@ impl Holdings {
                 None => break,
             }
         }
-        Ok(Holdings {
+        Ok(Standing {
             owners,
             counts: maker.counts(),
+            is_forged: false,
+            entries: None,
+            closes: None,
+            receipts: Vec::new(alloc),
+            bytes: Vec::new(alloc),
+            built: 0,
         })
+    }
+
+    /// Puts down the bytes of the pages that commands have, in the order of the pages, and how many drafts are built.
+    fn put_values<A: Allocator>(&mut self, values: &[Value<A>]) -> Result<(), AllocError> {
+        for p in 0..self.owners.len() {
+            for value in values {
+                let pages: &[Page<A>] = match value {
+                    Value::Draft(draft) => draft.pages(),
+                    Value::Ticket(_) => &[],
+                    Value::Finished(finished) => finished.pages(),
+                };
+                for page in pages {
+                    if page.number().0 as usize == p {
+                        self.bytes.extend_from_slice(page.bytes())?;
+                    }
+                }
+            }
+        }
+        for value in values {
+            if let Value::Draft(draft) = value {
+                if draft.entry().is_some() {
+                    self.built = self.built.saturating_add(1);
+                }
+            }
+        }
+        Ok(())
     }
 }
 
-/// How a bench stands.
-#[derive(Debug, Drop, PartialEq)]
-pub struct BenchStanding {
-    /// Whose its pages are.
-    pub holdings: Holdings,
-    /// Whether nothing was forged.
-    trusted: bool,
-}
-
 impl<'h> Stands for OnBench<&'h Heap> {
-    type Standing = BenchStanding;
-
     fn step_without(
         &mut self,
         refusal: Refusal,
@@ -85,34 +117,14 @@ impl<'h> Stands for OnBench<&'h Heap> {
         Ok((reply_in(self.alloc, answer)?, tally))
     }
 
-    fn standing(&self, alloc: Global) -> Result<BenchStanding, AllocError> {
-        Ok(BenchStanding {
-            holdings: Holdings::of(alloc, self)?,
-            trusted: self.bench.trusted(),
-        })
+    fn standing(&self, alloc: Global) -> Result<Standing, AllocError> {
+        let mut standing = Standing::of(alloc, self)?;
+        standing.is_forged = !self.bench.trusted();
+        Ok(standing)
     }
 }
 
-/// How a desk with a book and one seat stands, with the commands that it keeps.
-#[derive(Debug, Drop, PartialEq)]
-pub struct DeskStanding {
-    /// Whose the book's pages are.
-    pub holdings: Holdings,
-    /// How many entries the log has, where it is seen: behind a lock it is as the book ends.
-    pub entries: Option<usize>,
-    /// Once the book is closed how many submissions there were, or why it is not closed.
-    pub closes: Option<Result<u64, CloseFault>>,
-    /// The receipts of the seat.
-    pub receipts: Vec<Receipt>,
-    /// The bytes of the pages that commands have, in the order of the pages.
-    bytes: Vec<u8>,
-    /// How many drafts are built.
-    built: usize,
-}
-
 impl<'h, L: FullLogBrand, R: Wait> Stands for DeskIn<'h, L, R> {
-    type Standing = DeskStanding;
-
     fn step_without(
         &mut self,
         refusal: Refusal,
@@ -127,45 +139,15 @@ impl<'h, L: FullLogBrand, R: Wait> Stands for DeskIn<'h, L, R> {
         Ok((reply_in(self.alloc, answer?)?, tally))
     }
 
-    fn standing(&self, alloc: Global) -> Result<DeskStanding, AllocError> {
-        let holdings = Holdings::of(alloc, self)?;
-        let bytes = bytes_of(alloc, &self.values, &holdings.owners)?;
-        Ok(DeskStanding {
-            holdings,
-            entries: self.access.entries(),
-            closes: None,
-            receipts: self.receipts(alloc)?,
-            bytes,
-            built: self.values.iter().filter(|value| value.is_built()).count(),
-        })
-    }
-}
-
-/// Puts the bytes of a page behind the others, where a command has it.
-fn put_page<A: Allocator>(
-    bytes: &mut Vec<u8>,
-    values: &[Value<A>],
-    number: PageNo,
-) -> Result<(), AllocError> {
-    for value in values {
-        for page in value.pages() {
-            if page.number().0 == number.0 {
-                bytes.extend_from_slice(page.bytes())?;
-            }
+    fn standing(&self, alloc: Global) -> Result<Standing, AllocError> {
+        let mut standing = Standing::of(alloc, self)?;
+        if let Access::Book(book) = &self.access {
+            standing.entries = Some(book.log().len());
         }
+        if let Some(seat) = self.seats.last() {
+            standing.receipts.extend_from_slice(seat.receipts())?;
+        }
+        standing.put_values(&self.values)?;
+        Ok(standing)
     }
-    Ok(())
-}
-
-/// The bytes of the pages that commands have, in the order of the pages of the pool.
-fn bytes_of<A: Allocator>(
-    alloc: Global,
-    values: &[Value<A>],
-    pool: &[Owner],
-) -> Result<Vec<u8>, AllocError> {
-    let mut bytes = Vec::new(alloc);
-    for (_, p) in pool.iter().zip(0..MAX_PAGES) {
-        put_page(&mut bytes, values, PageNo(p))?;
-    }
-    Ok(bytes)
 }

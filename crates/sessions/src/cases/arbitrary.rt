@@ -41,37 +41,25 @@ const WORDS: [&[u8]; 28] = [
     b"@",
 ];
 
-/// Puts a word, or a byte.
-fn put_word(line: &mut Vec<u8>, numbers: &mut Numbers) -> Result<(), AllocError> {
-    if numbers.below(8) == 0 {
-        let [byte] = numbers.bytes::<1>();
-        return Ok(line.push(byte)?);
-    }
-    let word = WORDS.get(numbers.below(28) as usize).unwrap_or(&WORDS[0]);
-    Ok(line.extend_from_slice(word)?)
-}
+/// What a line is shown as.
+const SHOWN: [Shown; 3] = [Shown::Submission, Shown::Completion, Shown::Descriptor];
 
-/// A line of some words.
+/// A line of some words, or bytes.
 fn line(alloc: Global, numbers: &mut Numbers) -> Result<Vec<u8>, AllocError> {
     let mut line = Vec::new(alloc);
     for _ in 0..numbers.below(5) {
-        put_word(&mut line, numbers)?;
+        if numbers.below(8) == 0 {
+            line.extend_from_slice(&numbers.bytes::<1>())?;
+        } else {
+            line.extend_from_slice(WORDS[numbers.below(28) as usize])?;
+        }
         line.push(b' ')?;
     }
     Ok(line)
 }
 
-/// What a line is shown as.
-fn shown_as(numbers: &mut Numbers) -> Shown {
-    match numbers.below(3) {
-        0 => Shown::Submission,
-        1 => Shown::Completion,
-        _ => Shown::Descriptor,
-    }
-}
-
-/// Reads arbitrary lines, and tells how many were good.
-fn read_lines<R: AllocGlobal + Files>(rt: &R) -> Result<String, AllocError> {
+/// Reads arbitrary lines, and prints how many were good.
+pub fn play_lines<R: AllocGlobal + Files + Print>(rt: &R) -> io::Result<()> {
     let alloc = rt.alloc();
     let mut numbers = Numbers::new(1);
     let mut reader = CaseReader::begin(alloc, "cases/")?;
@@ -81,21 +69,15 @@ fn read_lines<R: AllocGlobal + Files>(rt: &R) -> Result<String, AllocError> {
         let line = line(alloc, &mut numbers)?;
         match reader.line(rt, number, &line) {
             Ok(()) => taken = taken.saturating_add(1),
-            Err(Stop::Memory) => return Err(AllocError),
+            Err(Stop::Memory) => return Err(io::Error::from(AllocError)),
             Err(Stop::At(..) | Stop::Before(..)) => {}
         }
-        let shown = shown_as(&mut numbers);
+        let shown = SHOWN[numbers.below(3) as usize];
         let lines = show(rt, shown, &line, Layout::Lines).is_ok();
         let objects = show(rt, shown, &line, Layout::Objects).is_ok();
         if lines && objects {
             decoded = decoded.saturating_add(1);
         }
     }
-    format!(in alloc; "{LINES} lines: {taken} are taken, {decoded} decoded")
-}
-
-/// Reads arbitrary lines, and prints how many were good.
-pub fn play_lines<R: AllocGlobal + Files + Print>(rt: &R) -> io::Result<()> {
-    let told = read_lines(rt)?;
-    println!(rt; "{told}")
+    println!(rt; "{LINES} lines: {taken} are taken, {decoded} decoded")
 }

@@ -1,7 +1,7 @@
 //! Cases that stand in files.
 
 use entry_codec::Status;
-use std::alloc::{AllocError, AllocGlobal, Global};
+use std::alloc::{AllocError, AllocGlobal};
 use std::rt::Files;
 use std::{fs, io};
 use views::explain::{Layout, explain_text, fault_lines};
@@ -9,17 +9,8 @@ use views::explain::{Layout, explain_text, fault_lines};
 /// What begins a line that is printed.
 const WANTED: &str = "> ";
 
-/// The lines of a case, and those that are to be printed.
-#[derive(Drop)]
-struct Played {
-    case: String,
-    wanted: String,
-}
-
-/// Takes the lines of a file apart.
-fn read_played(alloc: Global, text: &str) -> Result<Played, AllocError> {
-    let mut case = String::new(alloc);
-    let mut wanted = String::new(alloc);
+/// Parts the lines of a file: those of the case, and those that are to be printed for it.
+fn part(text: &str, case: &mut String, wanted: &mut String) -> Result<(), AllocError> {
     for line in text.lines() {
         match line.strip_prefix(WANTED) {
             Some(line) => {
@@ -32,7 +23,7 @@ fn read_played(alloc: Global, text: &str) -> Result<Played, AllocError> {
             }
         }
     }
-    Ok(Played { case, wanted })
+    Ok(())
 }
 
 /// What is printed for a case, also of one that is at fault.
@@ -47,52 +38,34 @@ fn printed<R: AllocGlobal + Files>(rt: &R, file: &str, case: &[u8]) -> Result<St
     }
 }
 
-/// How cases end that are cut.
-#[derive(Clone, Copy, Default)]
-struct Ends {
-    accepted: u32,
-    refused: u32,
-    at_fault: u32,
-}
-
-impl Ends {
-    /// Counts the end of a case.
-    fn count<R: AllocGlobal + Files>(&mut self, rt: &R, file: &str, case: &[u8]) {
-        match explain_text(rt, Some(file), case, Layout::Objects) {
+/// Cuts a case after each byte, and answers how often what is left is accepted, refused, and at fault.
+fn cut<R: AllocGlobal + Files>(rt: &R, file: &str, case: &[u8]) -> (u32, u32, u32) {
+    let (mut accepted, mut refused, mut at_fault) = (0u32, 0u32, 0u32);
+    for len in 0..case.len() {
+        match explain_text(rt, Some(file), &case[..len], Layout::Objects) {
             Ok(answer) if answer.status == Status::SUCCESS => {
-                self.accepted = self.accepted.saturating_add(1);
+                accepted = accepted.saturating_add(1);
             }
-            Ok(_) => self.refused = self.refused.saturating_add(1),
-            Err(_) => self.at_fault = self.at_fault.saturating_add(1),
+            Ok(_) => refused = refused.saturating_add(1),
+            Err(_) => at_fault = at_fault.saturating_add(1),
         }
     }
-}
-
-/// Cuts a case after each byte.
-fn cut<R: AllocGlobal + Files>(rt: &R, file: &str, case: &[u8]) -> Ends {
-    let mut ends = Ends::default();
-    for len in 0..case.len() {
-        ends.count(rt, file, case.get(..len).unwrap_or(&[]));
-    }
-    ends
+    (accepted, refused, at_fault)
 }
 
 /// Plays the case of a file, whole and cut, and prints a line of it; where it does not say what is printed, that too. Then the answer is false.
 pub fn play_case<R: AllocGlobal + Files + Print>(rt: &R, file: &str) -> io::Result<bool> {
-    let alloc = rt.alloc();
     let text = fs::read_to_string(rt, file)?;
-    let Played { case, wanted } = read_played(alloc, text.as_str())?;
-    let came = printed(rt, file, case.as_bytes())?;
+    let mut case = String::new(rt.alloc());
+    let mut wanted = String::new(rt.alloc());
+    part(text.as_str(), &mut case, &mut wanted)?;
+    let case = case.as_bytes();
+    let came = printed(rt, file, case)?;
     if came != wanted {
-        println!(rt; "{file} differs: there came")?;
-        print!(rt; "{came}")?;
+        print!(rt; "{file} differs: there came\n{came}")?;
         return Ok(false);
     }
-    let Ends {
-        accepted,
-        refused,
-        at_fault,
-    } = cut(rt, file, case.as_bytes());
+    let (accepted, refused, at_fault) = cut(rt, file, case);
     println!(rt; "{file} ok; cut: {accepted} accepted, {refused} refused, {at_fault} at fault")?;
     Ok(true)
 }

@@ -6,15 +6,10 @@ use std::io::Read;
 /// Gives what is typed, byte by byte, and prints it as a terminal does.
 #[derive(Drop)]
 pub(crate) struct Terminal<'a, R> {
-    rt: &'a R,
-    rest: &'a str,
-}
-
-impl<'a, R> Terminal<'a, R> {
-    /// A terminal on which these lines are typed.
-    pub(crate) fn typing(rt: &'a R, lines: &'a str) -> Terminal<'a, R> {
-        Terminal { rt, rest: lines }
-    }
+    /// Where it is printed.
+    pub rt: &'a R,
+    /// What is still to be typed.
+    pub rest: &'a str,
 }
 
 impl<R: Print> Read for Terminal<'_, R> {
