@@ -9,6 +9,9 @@
  * a pool    one array, of at most 256 MiB: address a is its byte a. An address past its end is missing. nvmectl_next, nvmectl_fetch, nvmectl_walk,
  *           nvmectl_complete.
  *
+ * A controller holds the blocks of its namespace as an image (nvmectl_open), or they are lent to it too, at each call that reads or writes them (nvmectl_open_lent):
+ * the namespace then lies on a disk, in a file or in flash, of up to 2^32 - 1 blocks, behind two callbacks (nvmectl_fetch_disk, nvmectl_complete_disk).
+ *
  * Memory may move, grow and be another one between calls, and anybody may write into it between them: what a call promises it promises for any bytes. A call
  * writes the bytes that its step of the controller writes, and no others; which those are, a completion's slot or the data of a Read, its contract says.
  *
@@ -36,7 +39,7 @@ typedef struct nvmectl {
 typedef struct nvmectl_options {
     uint32_t size;    /* sizeof(nvmectl_options) */
     uint32_t entries; /* of each ring, 2 to 1,024 */
-    uint32_t blocks;  /* of an image of zeros, 1 to 65,536; looked at only where no image is given */
+    uint32_t blocks;  /* of an image of zeros, 1 to 65,536; looked at only where no image is given. Of nvmectl_open_lent: of the namespace, 1 to 2^32 - 1 */
     uint32_t reserved[5];
 } nvmectl_options;
 
@@ -64,6 +67,14 @@ typedef struct nvmectl_job {
     uint32_t reserved[4]; /* 0 */
 } nvmectl_job;
 
+/* Blocks that a command wants and that were not lent. */
+typedef struct nvmectl_wanted {
+    uint64_t slba;   /* the first of them */
+    uint32_t blocks; /* how many, of 512 bytes */
+    uint8_t opcode;  /* of the command: 1 a Write, 2 a Read, 5 a Compare */
+    uint8_t reserved[19]; /* 0 */
+} nvmectl_wanted;
+
 enum nvmectl_step_kind { NVMECTL_REST = 0, NVMECTL_FETCH = 1, NVMECTL_WALK = 2, NVMECTL_COMPLETE = 3 };
 
 /* A call that would be done now. */
@@ -81,6 +92,9 @@ typedef struct nvmectl_step {
  * others to Create I/O CQ and SQ. Refused, the first that holds: OPEN_HANDLE or NO_HANDLE, BAD_SIZE, BAD_OPTION,
  * BAD_CONFIG, BAD_IMAGE, MEMORY. */
 uint32_t nvmectl_open(nvmectl *, const nvmectl_options *, const nvmectl_queue *queues, size_t queue_count, const uint8_t *image, size_t image_len) NVMESGL_CALL(1, 2);
+/* Opens a controller that holds no blocks: the namespace has options.blocks of them, 1 to 2^32 - 1, which are lent to the calls below, over regions. All else is as
+ * nvmectl_open does it. Refused, the first that holds: OPEN_HANDLE or NO_HANDLE, BAD_SIZE, BAD_OPTION, BAD_CONFIG, BAD_IMAGE (there is no block), MEMORY. */
+uint32_t nvmectl_open_lent(nvmectl *, const nvmectl_options *, const nvmectl_queue *queues, size_t queue_count) NVMESGL_CALL(1, 2);
 /* Closes a handle; one that is closed stays so, and of a null pointer, and of a handle of another kind, nothing is done. */
 void nvmectl_close(nvmectl *);
 /* A Controller Level Reset: no command is left, the I/O queues are gone, and queue 0 stays with empty rings. The image is as it was. */
@@ -105,6 +119,36 @@ uint32_t nvmectl_walk_over(nvmectl *, uint16_t q, uint16_t cid, const nvmectl_re
 /* Posts a completion; a Write that ends well changes the image here. Refused: NO_JOB, WALKING, WAITS, FULL, SLOT_OUT. */
 uint32_t nvmectl_complete_over(nvmectl *, uint16_t q, uint16_t cid, const nvmectl_region *regions, size_t region_count, nvmesgl_answer *) NVMESGL_CALL(1, 6);
 
+/* The steps over regions of a controller that holds no blocks: nvmectl_walk_over as above, and these. A fetch or a completion over regions or a pool above and below
+ * (nvmectl_fetch_over, nvmectl_fetch, nvmectl_complete_over, nvmectl_complete) is of one that holds an image, as is nvmectl_blocks: OTHER_CALL, of these calls
+ * likewise where the controller holds an image ------------------------------------------------------------------------- */
+
+/* As nvmectl_fetch_over. It is lent blocks_len / 512 blocks of the namespace, from slba on, and only reads them: those of the Read that is fetched are wanted.
+ * Refused: OTHER_CALL, NO_BLOCKS (no whole blocks, or they pass the end of the namespace), IDLE, SLOT_OUT, FULL, SLOT_OUT, NOT_LENT (they are not all lent: wanted),
+ * MEMORY. NOT_LENT changes nothing: wanted tells which, and the answer which page was touched. The guest may write another entry before the next call. */
+uint32_t nvmectl_fetch_lent(nvmectl *, uint16_t q, const nvmectl_region *regions, size_t region_count, uint64_t slba, uint8_t *blocks, size_t blocks_len,
+                            nvmectl_wanted *wanted, nvmesgl_answer *) NVMESGL_CALL(1, 8, 9);
+/* As nvmectl_complete_over. The blocks of a Compare and of a Write that end well so far are wanted. A Write's bytes then stand in what was lent, and are the
+ * caller's to keep. Refused: OTHER_CALL, NO_BLOCKS, NO_JOB, WALKING, WAITS, NOT_LENT (wanted), FULL, SLOT_OUT. */
+uint32_t nvmectl_complete_lent(nvmectl *, uint16_t q, uint16_t cid, const nvmectl_region *regions, size_t region_count, uint64_t slba, uint8_t *blocks,
+                               size_t blocks_len, nvmectl_wanted *wanted, nvmesgl_answer *) NVMESGL_CALL(1, 9, 10);
+
+/* Where the blocks of a namespace are kept. Each callback is given the context, and answers 0 where it has read or written all the blocks, of 512 bytes; they lie in the
+ * namespace. A block that was never written reads as the disk has it. A callback calls nothing of the same handle. */
+typedef struct nvmectl_disk {
+    void *context;
+    int (*read)(void *context, uint64_t slba, uint32_t blocks, uint8_t *into);
+    int (*write)(void *context, uint64_t slba, uint32_t blocks, const uint8_t *from);
+} nvmectl_disk;
+
+/* nvmectl_fetch_lent over a disk: the blocks of a Read are read, into memory that the library takes and lets go. Refused as that, and: DISK (the callback failed),
+ * MEMORY, NOT_LENT (the guest changed the entry at each of four tries). Then nothing is fetched, and the call may be made again. */
+uint32_t nvmectl_fetch_disk(nvmectl *, uint16_t q, const nvmectl_region *regions, size_t region_count, const nvmectl_disk *, nvmesgl_answer *) NVMESGL_CALL(1, 5, 6);
+/* nvmectl_complete_lent over a disk: the blocks of a Compare are read, and those of a Write are written before its completion is posted. Refused as that, and: DISK,
+ * MEMORY. Then nothing is completed, and the call may be made again; a Write that was refused FULL or SLOT_OUT is on the disk already, and is written again. */
+uint32_t nvmectl_complete_disk(nvmectl *, uint16_t q, uint16_t cid, const nvmectl_region *regions, size_t region_count, const nvmectl_disk *, nvmesgl_answer *)
+    NVMESGL_CALL(1, 6, 7);
+
 /* The same steps over a pool: of at most 268,435,456 bytes, else POOL_TOO_LONG --------------------------------------- */
 
 /* As nvmectl_fetch_over; a creation's rings lie in the pool. */
@@ -116,12 +160,15 @@ uint32_t nvmectl_complete(nvmectl *, uint16_t q, uint16_t cid, uint8_t *pool, si
 
 /* Looks: they change nothing -------------------------------------------------------------------------------------- */
 
-/* A step that would be done now (want of memory left aside), or NVMECTL_REST where each would be refused. It goes over the queues and then over the commands. */
+/* A step that would be done now (want of memory and of lent blocks left aside), or NVMECTL_REST where each would be refused. It goes over the queues and then over the commands. */
 uint32_t nvmectl_next_over(nvmectl *, const nvmectl_region *regions, size_t region_count, nvmectl_step *) NVMESGL_CALL(1, 4);
 /* The same over a pool of at most 268,435,456 bytes, else POOL_TOO_LONG. */
 uint32_t nvmectl_next(nvmectl *, uint8_t *pool, size_t pool_len, nvmectl_step *) NVMESGL_CALL(1, 4);
 /* A command that was fetched and not completed. Refused: NO_JOB. */
 uint32_t nvmectl_command(nvmectl *, uint16_t q, uint16_t cid, nvmectl_job *) NVMESGL_CALL(1, 4);
+/* The bytes of such a command, at the start of the buffer: those of a Read's blocks, and what a Write or a Compare has fetched so far; a Write's are what its completion
+ * writes. answer.bytes: how many they are, of an admin command 0. Refused: NO_JOB, TOO_SHORT (the buffer; answer.bytes is told). */
+uint32_t nvmectl_bytes(nvmectl *, uint16_t q, uint16_t cid, uint8_t *buffer, size_t buffer_len, nvmesgl_answer *) NVMESGL_CALL(1, 6);
 /* Blocks of the image from slba on, as many as the buffer has. Refused: NO_BLOCKS (the image has not so many, or the buffer is not whole blocks of 512). */
 uint32_t nvmectl_blocks(nvmectl *, uint64_t slba, uint8_t *buffer, size_t buffer_len) NVMESGL_CALL(1);
 

@@ -140,7 +140,7 @@ enum nvmesgl_code {
     NVMESGL_BAD_DOORBELL = 50,
     /* The pool has more than 65,536 pages. */
     NVMESGL_POOL_TOO_LONG = 51,
-    /* The image has not so many blocks there, or the buffer is not whole blocks. */
+    /* The image or the namespace has not so many blocks there, or the buffer is not whole blocks. */
     NVMESGL_NO_BLOCKS = 52,
     /* Of nvmehost.h: no bytes, or more than 4,096. */
     NVMESGL_BAD_LENGTH = 53,
@@ -151,7 +151,13 @@ enum nvmesgl_code {
     /* The kind of a piece is neither NVMESGL_PIECE nor NVMESGL_BUCKET. */
     NVMESGL_BAD_PIECE = 56,
     /* The handle is none of the kind that the call takes: another kind's, never zeroed, or overwritten. Before every other code; the handle is left as it is. */
-    NVMESGL_NO_HANDLE = 57
+    NVMESGL_NO_HANDLE = 57,
+    /* Of nvmectl.h: the command wants blocks that are not lent. */
+    NVMESGL_NOT_LENT = 58,
+    /* The call is of a controller of the other kind: one that holds an image, or one whose blocks are lent. */
+    NVMESGL_OTHER_CALL = 59,
+    /* A callback of the disk failed. */
+    NVMESGL_DISK = 60
 };
 
 /* The code as a sentence for people; "no such code" for other numbers. */

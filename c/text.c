@@ -52,11 +52,14 @@ const char *nvmesgl_text(uint32_t code) {
     case NVMESGL_BAD_PIECE: return "the kind of a piece is neither data nor a bucket";
     case NVMESGL_BAD_DOORBELL: return "the doorbell does not hear the value";
     case NVMESGL_POOL_TOO_LONG: return "a pool has at most 65,536 pages";
-    case NVMESGL_NO_BLOCKS: return "the image has not so many blocks there, or the buffer is not whole blocks";
+    case NVMESGL_NO_BLOCKS: return "there are not so many blocks there, or the buffer is not whole blocks";
     case NVMESGL_BAD_LENGTH: return "a call moves 1 to 4,096 bytes";
     case NVMESGL_PAGE_OUT: return "a byte is outside the pool or on a page that is out";
     case NVMESGL_NO_PIECE: return "no such command is outstanding, or it has no such data piece";
     case NVMESGL_NO_HANDLE: return "the handle is none of the kind that the call takes";
+    case NVMESGL_NOT_LENT: return "the command wants blocks that are not lent";
+    case NVMESGL_OTHER_CALL: return "the call is of a controller of the other kind: one with an image, or one whose blocks are lent";
+    case NVMESGL_DISK: return "the disk failed to read or to write blocks";
     default: return "no such code";
     }
 }

@@ -112,8 +112,10 @@ static void controller_calls(nvmectl *h) {
     nvmectl_options options = NVMECTL_OPTIONS;
     nvmectl_queue queues[2] = {{0, 1}, {2, 3}};
     nvmectl_region region = {0, pool, sizeof pool};
+    nvmectl_disk disk = {NULL, NULL, NULL};
     nvmectl_step step;
     nvmectl_job job;
+    nvmectl_wanted wanted;
     STRANGE(nvmectl_open(h, &options, queues, 2, NULL, 0));
     STRANGE(nvmectl_reset(h));
     STRANGE(nvmectl_tail(h, 1, 1));
@@ -128,6 +130,12 @@ static void controller_calls(nvmectl *h) {
     STRANGE(nvmectl_next_over(h, &region, 1, &step));
     STRANGE(nvmectl_command(h, 1, 0, &job));
     STRANGE(nvmectl_blocks(h, 0, block, 512));
+    STRANGE(nvmectl_bytes(h, 1, 0, block, 512, &answer));
+    STRANGE(nvmectl_open_lent(h, &options, queues, 2));
+    STRANGE(nvmectl_fetch_lent(h, 1, &region, 1, 0, block, 512, &wanted, &answer));
+    STRANGE(nvmectl_complete_lent(h, 1, 0, &region, 1, 0, block, 512, &wanted, &answer));
+    STRANGE(nvmectl_fetch_disk(h, 1, &region, 1, &disk, &answer));
+    STRANGE(nvmectl_complete_disk(h, 1, 0, &region, 1, &disk, &answer));
     nvmectl_close(h);
 }
 

@@ -65,6 +65,9 @@ class Code(enum.IntEnum):
     NO_PIECE = 55
     BAD_PIECE = 56
     NO_HANDLE = 57
+    NOT_LENT = 58
+    OTHER_CALL = 59
+    DISK = 60
 
 
 class PageUse(enum.IntEnum):

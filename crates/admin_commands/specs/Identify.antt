@@ -1,4 +1,4 @@
--- Fields of what Identify brings, by their places in its bytes. Numbers are little-endian.
+-- Fields of what Identify brings, by their offsets in its bytes. Numbers are little-endian.
 use Rattle.std.specs.Int.{w16, w32, w64, from_le_bytes}
 use Rattle.std.specs.Prelude.{ℕ, ◌+◌, ◌*◌, ◌^◌, ◌/◌, ◌%◌, ◌==◌, ◌||◌, nat_lt, Bool, Option, Some, None, List, slice_index, slice_range, if◌then◌else◌}
 use Rattle.admin_commands.specs.declared.identify.{controller.ListSupport.{ListSupport, TheVariants.{No, Bytes, Words}}, namespace.Format.Format}
@@ -15,7 +15,7 @@ double_word_at bytes at = from_le_bytes w64 (slice_range bytes at (at + 8))
 abbrev pub has_bit : ℕ → ℕ → Bool
 has_bit n k = n / 2 ^ k % 2 == 1
 
--- a power of two, if it is one of 32 bits and no zeroth
+-- a power of two, if it is one of 32 bits and not the zeroth
 abbrev pub power_of : ℕ → Option ℕ
 power_of k = if (k == 0) || nat_lt 31 k then None else Some (2 ^ k)
 

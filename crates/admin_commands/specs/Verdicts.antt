@@ -20,7 +20,7 @@ is_absent Absent = true
 is_absent Live = false
 is_absent Stopping = false
 
--- An Abort stops an I/O job that has no verdict. Queue 0 has no such job. Else it is answered at once: not aborted.
+-- An Abort stops an I/O job that has no verdict. Queue 0 has no such job. Otherwise it is answered at once: not aborted.
 abbrev pub abort_verdict : ℕ → ℕ → DeviceView → AdminVerdict
 abort_verdict q cid view = if view.target_walks && not (q == 0) then AbortJob q cid else Answer SUCCESS 1
 

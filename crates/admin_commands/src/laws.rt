@@ -53,14 +53,14 @@ pub fn checks_fields_first()
     ensures fused_abort { (entry : SubEntry) (view : DeviceView) → entry.opcode ≡ 0x08 → entry.fuse ≢ 0 → decision entry view ≡ Answer INVALID_FIELD 0 }
 {}
 
-/// An Abort stops the command that it names exactly where that is an I/O job without verdict; else it was not aborted, which DW0 says.
+/// An Abort stops the command that it names exactly where that is an I/O job without verdict; otherwise it was not aborted, which DW0 says.
 pub fn aborts()
     ensures stops { (entry : SubEntry) (view : DeviceView) → entry.opcode ≡ 0x08 → entry.fuse ≡ 0 → named_queue entry ≢ 0 → view.target_walks ≡ true → decision entry view ≡ AbortJob (named_queue entry) (named_command entry) }
     ensures too_late { (entry : SubEntry) (view : DeviceView) → entry.opcode ≡ 0x08 → entry.fuse ≡ 0 → view.target_walks ≡ false → decision entry view ≡ Answer SUCCESS 1 }
     ensures queue_zero { (entry : SubEntry) (view : DeviceView) → entry.opcode ≡ 0x08 → entry.fuse ≡ 0 → named_queue entry ≡ 0 → decision entry view ≡ Answer SUCCESS 1 }
 {}
 
-/// A Delete SQ stops the submission queue that it names exactly where that is a live I/O queue; else it names no queue to delete.
+/// A Delete SQ stops the submission queue that it names exactly where that is a live I/O queue; otherwise it names no queue to delete.
 pub fn deletes_submission_queues()
     ensures live { (entry : SubEntry) (view : DeviceView) → entry.opcode ≡ 0x00 → entry.fuse ≡ 0 → named_queue entry ≢ 0 → view.sq ≡ Live → decision entry view ≡ StopQueue (named_queue entry) }
     ensures absent { (entry : SubEntry) (view : DeviceView) → entry.opcode ≡ 0x00 → entry.fuse ≡ 0 → view.sq ≡ Absent → decision entry view ≡ Answer INVALID_QUEUE_IDENTIFIER 0 }

@@ -117,14 +117,14 @@ pub enum AdminVerdict {
         /// The queue.
         q: u16,
     },
-    /// That completion queue is there, with an empty ring from this address on; the answer is 0:00.
+    /// That completion queue is there, with an empty ring starting at this address; the answer is 0:00.
     MakeCompletion {
         /// The queue.
         q: u16,
         /// The address of its first byte.
         base: u64,
     },
-    /// That submission queue is live, with an empty ring from this address on; the answer is 0:00.
+    /// That submission queue is live, with an empty ring starting at this address; the answer is 0:00.
     MakeSubmission {
         /// The queue.
         q: u16,
@@ -135,7 +135,7 @@ pub enum AdminVerdict {
 
 /// The entry that the driver sends for an admin command, under an identifier of queue 0.
 ///
-/// What the profile names nothing for is zero (own): NSID, PSDT, FUSE, MPTR, CDW12 to CDW15, bits 31:16 of a deletion's CDW10, and DPTR and
+/// Whatever the profile names nothing for is zero (own): NSID, PSDT, FUSE, MPTR, CDW12 to CDW15, bits 31:16 of a deletion's CDW10, and DPTR and
 /// CDW11 but for a creation's base address, its bit "physically contiguous", its completion queue or its interrupts. A ring of 0 entries,
 /// which is none, is written as one of 1.
 pub fn entry(kind: AdminKind, cid: u16) -> SubEntry
@@ -276,17 +276,17 @@ fn named_base(entry: &SubEntry) -> u64
 /// The checks come in this order (own): an opcode that is none of the five, 0:01; FUSE not 0, 0:02. Then the command's
 /// rule.
 ///
-/// - An Abort stops a job without verdict, and is else answered 0:00 with DW0 = 1.
-/// - Delete SQ stops a live I/O queue, and is else answered 1:01.
+/// - An Abort stops a job without verdict, and is otherwise answered 0:00 with DW0 = 1.
+/// - Delete SQ stops a live I/O queue, and is otherwise answered 1:01.
 /// - Delete CQ is answered 1:01 where the queue is 0 or is not there, 1:0C where its submission queue is there in any
-///   state, and else drops the queue.
+///   state, and otherwise drops the queue.
 /// - Create CQ is answered 1:01 where the queue is 0, above the controller's I/O queues, or there; 1:02 where the size, one
 ///   more than the number in its field, is not that of the controller's rings; 0:02 where the ring is not physically
-///   contiguous, where its base address is no multiple of 4,096, or where a page of it lies outside the pool (own). Else it
+///   contiguous, where its base address is no multiple of 4,096, or where a page of it lies outside the pool (own). Otherwise it
 ///   makes the queue.
 /// - Create SQ is answered 1:01 where the queue is 0, above the controller's I/O queues, or there in any state; 1:01 where
 ///   the completion queue is 0 or above the I/O queues; 1:00 where the completion queue is not there, or is not that of the
-///   queue's own number (own); and then as Create CQ from the size on. Else it makes the queue.
+///   queue's own number (own); and then as Create CQ from the size onward. Otherwise it makes the queue.
 pub fn decide(entry: &SubEntry, view: &DeviceView) -> AdminVerdict
     ensures { result ≡ decision entry.now view.now }
 {

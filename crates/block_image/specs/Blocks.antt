@@ -1,5 +1,5 @@
 -- The image of a namespace: the bytes of its blocks, 512 to a block, one block after another.
-use Rattle.std.specs.Prelude.{◌≡◌, ℕ, ◌+◌, ◌*◌, ◌/◌, ◌%◌, ◌<◌, ◌≤◌, ◌⊎◌, List, ◌++◌, length, take, drop}
+use Rattle.std.specs.Prelude.{◌≡◌, ℕ, ◌+◌, ◌*◌, ◌/◌, ◌%◌, ◌<◌, ◌≤◌, ◌⊎◌, ◌&&◌, Bool, not, nat_lt, List, ◌++◌, length, replicate, take, drop}
 
 -- the most blocks that an image has
 abbrev pub most_blocks : ℕ
@@ -52,3 +52,17 @@ abbrev pub PutKeepsLength : Type 0
 PutKeepsLength =
     (image : List ℕ) (slba : ℕ) (new : List ℕ) →
     IsInRange image slba new → length (with_blocks image slba new) ≡ length image
+
+-- The bytes of a namespace of so many blocks, of which some are lent, from a first one on: zeros in place of those that are not.
+abbrev pub shown : ℕ → ℕ → List ℕ → List ℕ
+shown blocks first lent = with_blocks (replicate (512 * blocks) 0) first lent
+
+-- whether so many blocks from slba on are all lent
+abbrev pub is_lent : ℕ → List ℕ → ℕ → ℕ → Bool
+is_lent first lent slba n = not (nat_lt slba first) && not (nat_lt (first + block_count lent) (slba + n))
+
+-- what can be lent of a namespace of so many blocks: whole blocks, inside it
+pub record IsPart (blocks first : ℕ) (lent : List ℕ) : Type 0 where
+  pub some : 0 < blocks
+  pub whole : length lent % 512 ≡ 0
+  pub inside : first + block_count lent ≤ blocks

@@ -1,13 +1,23 @@
 //! The image of the modelled controller's one namespace: a list of logical blocks of 512 bytes, numbered from 0.
 //!
 //! A clause sees an [`Image`] as the list of its bytes, one block after another. Each call reads or changes exactly
-//! the blocks that it names, and none but [`Image::zeroed`] takes memory.
+//! the blocks that it names, and none but [`Image::zeroed`] and [`Blocks::copied`] takes memory.
+//!
+//! A controller asks for its blocks as [`Blocks`]. An image holds them; with [`Lent`] somebody lends some of them for one call, who keeps the
+//! namespace elsewhere, and [`Away`] says of them only how many there are.
 #![tactic(auto)]
 
-ghost use Rattle.std.specs.Prelude.{◌≡◌, ◌+◌, ◌*◌, ◌<◌, ◌≤◌, ◌↔◌, ◌⊎◌, [], ◌++◌, IsTrue, IsOk, IsErrOf, IfOk, IfErr, length, replicate};
-ghost use Rattle.block_image.specs.Blocks.{IsImage, IsInRange, most_blocks, block_count, blocks_at, with_blocks, BlocksAreWhole, PutIsRead, PutKeepsOthers, PutKeepsLength};
+mod away;
+mod blocks;
+mod lent;
 
-use std::alloc::{Allocator, Global};
+ghost use Rattle.std.specs.Prelude.{◌≡◌, ◌+◌, ◌*◌, ◌<◌, ◌≤◌, ◌↔◌, ◌⊎◌, [], ◌++◌, IsTrue, IsOk, IsErrOf, IfOk, IfErr, true, false, length, replicate};
+ghost use Rattle.block_image.specs.Blocks.{IsImage, IsInRange, most_blocks, block_count, blocks_at, with_blocks, shown, is_lent, BlocksAreWhole, PutIsRead, PutKeepsOthers, PutKeepsLength};
+
+pub use away::Away;
+pub use blocks::Blocks;
+pub use lent::Lent;
+use std::alloc::{AllocError, Allocator, Global};
 use std::marker::Model;
 use thiserror::Error;
 
@@ -136,6 +146,41 @@ impl<A: Allocator> Image<A> {
     }
 }
 
+impl<A: Allocator> Blocks for Image<A> {
+    ghost use Rattle.std.specs.Prelude.{true, []};
+
+    ghost bytes = { λ image. image };
+
+    ghost at_hand = { λ image slba n. true };
+
+    ghost place = { λ image. [] };
+
+    fn blocks(&self) -> u32 {
+        Image::blocks(self)
+    }
+
+    fn has(&self, _slba: u64, _count: u32) -> bool {
+        true
+    }
+
+    fn copied<B: Allocator>(
+        &self,
+        alloc: B,
+        slba: u64,
+        count: u32,
+    ) -> Result<Vec<u8, B>, AllocError> {
+        Vec::from_slice(alloc, self.blocks_from(slba, count))
+    }
+
+    fn equal(&self, slba: u64, buffer: &[u8]) -> bool {
+        Image::equal(self, slba, buffer)
+    }
+
+    fn copy_in(&mut self, slba: u64, buffer: &[u8]) {
+        Image::copy_in(self, slba, buffer)
+    }
+}
+
 /// The laws of the definitions: n blocks are 512 n bytes, blocks that were put are read back, and all else stays.
 pub fn laws_of_blocks()
     ensures whole { BlocksAreWhole }
@@ -157,4 +202,13 @@ pub fn worked_blocks()
     ensures put_second { with_blocks (replicate 512 0x11 ++ replicate 512 0x22) 1 (replicate 512 0x33)
         ≡ replicate 512 0x11 ++ replicate 512 0x33 }
     ensures put_none { with_blocks (replicate 512 0x11) 1 [] ≡ replicate 512 0x11 }
+{}
+
+/// One block of bytes 22h is lent, the second of three.
+pub fn worked_lent()
+    ensures shown { shown 3 1 (replicate 512 0x22) ≡ replicate 512 0x00 ++ replicate 512 0x22 ++ replicate 512 0x00 }
+    ensures lent { is_lent 1 (replicate 512 0x22) 1 1 ≡ true }
+    ensures before { is_lent 1 (replicate 512 0x22) 0 1 ≡ false }
+    ensures past { is_lent 1 (replicate 512 0x22) 1 2 ≡ false }
+    ensures behind { is_lent 1 (replicate 512 0x22) 2 1 ≡ false }
 {}

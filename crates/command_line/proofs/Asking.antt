@@ -29,12 +29,12 @@ added_local old a new b adds local is = adds.globals ∙ (ap (λ (g : Bool). (ou
 -- so of one argument after the other
 pub added_all : (args : List Arg) (old new : Command) (rules : List Rule) → AddsInTurn AddsArg old args new
     → AllByRecursion (λ arg. arg.global ≡ false) args → map rule_of args ≡ rules → app_of new ≡ with_rules (app_of old) rules
-added_all args old new rules adds local is = go args old adds local ∙ ap (with_rules (app_of old)) is
+added_all args old new rules adds local is = along_arguments args old adds local ∙ ap (with_rules (app_of old)) is
   where
-    go : (args : List Arg) (old : Command) → AddsInTurn AddsArg old args new → AllByRecursion (λ arg. arg.global ≡ false) args
+    along_arguments : (args : List Arg) (old : Command) → AddsInTurn AddsArg old args new → AllByRecursion (λ arg. arg.global ≡ false) args
         → app_of new ≡ with_rules (app_of old) (map rule_of args)
-    go [] old adds local = ap app_of (sym adds)
-    go (arg ∷ args) old adds local = go args adds.0 adds.2 local.1 ∙ ap (λ x. with_rules x (map rule_of args)) (adds.1.shape local.0)
+    along_arguments [] old adds local = ap app_of (sym adds)
+    along_arguments (arg ∷ args) old adds local = along_arguments args adds.0 adds.2 local.1 ∙ ap (λ x. with_rules x (map rule_of args)) (adds.1.shape local.0)
 
 pub all_local : (args : List Arg) (old new : Command) → AddsInTurn AddsArg old args new
     → AllByRecursion (λ arg. arg.global ≡ false) args → (out-Command new).has_globals ≡ (out-Command old).has_globals
@@ -100,12 +100,12 @@ number_read t v parsed =
 
 -- and where they cannot be read, it is none
 pub no_number_read : (t : Text) → ¬ (IsNumeral 10 (without_leading_plus t) × (digits_value 10 (without_leading_plus t) < 2 ^ 32)) → None ≡ number t
-no_number_read t unread = go (is_numeral (without_leading_plus t) && nat_lt (digits_value 10 (without_leading_plus t)) (2 ^ 32)) refl
+no_number_read t unread = by_numeral (is_numeral (without_leading_plus t) && nat_lt (digits_value 10 (without_leading_plus t)) (2 ^ 32)) refl
   where
-    go : (b : Bool) → (is_numeral (without_leading_plus t) && nat_lt (digits_value 10 (without_leading_plus t)) (2 ^ 32)) ≡ b
+    by_numeral : (b : Bool) → (is_numeral (without_leading_plus t) && nat_lt (digits_value 10 (without_leading_plus t)) (2 ^ 32)) ≡ b
         → None ≡ (if b then Some (digits_value 10 (without_leading_plus t)) else None)
-    go true e = absurd (unread (fits_found (without_leading_plus t) e))
-    go false e = refl
+    by_numeral true e = absurd (unread (fits_found (without_leading_plus t) e))
+    by_numeral false e = refl
 
 -- and so what a getter of 32 bits reads
 read_is : (E : Type 0) (G : List ℕ → Result ℕ E → Type 0) → ((u : List ℕ) (x : Result ℕ E) → G u x → ParsesUnsigned 32 10 u x)
@@ -131,13 +131,13 @@ free = refl
 
 -- words with a fault ask for nothing
 with_fault : (words : List Text) (k : ErrorKind) → IsAmong k (fault_of nvmesgl words) → asked words ≡ None
-with_fault words k among = go (fault_of nvmesgl words) among
+with_fault words k among = by_kinds (fault_of nvmesgl words) among
   where
-    go : (kinds : Kinds) → IsAmong k kinds → unless_at_fault kinds (asked_by (subcommand_of nvmesgl words)) ≡ None
-    go [] h = absurd h
-    go (x ∷ xs) h = refl
+    by_kinds : (kinds : Kinds) → IsAmong k kinds → unless_at_fault kinds (asked_by (subcommand_of nvmesgl words)) ≡ None
+    by_kinds [] h = absurd h
+    by_kinds (x ∷ xs) h = refl
 
--- where a parse of the words fails, they ask for nothing, or memory is wanting
+-- where a parse of the words fails, they ask for nothing, or memory is lacking
 pub failed_parse : (a : App) (words : List Text) (e : Error) → a ≡ nvmesgl → (is_simple_and_free a ≡ true → HasKind (fault_of a words) e)
     → (kind_of e ≡ OutOfMemory) ⊎ (asked words ≡ None)
 failed_parse a words e is kinds =

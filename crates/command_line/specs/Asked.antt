@@ -119,7 +119,7 @@ serving_in rows = option_and_then serving_named (first_of (codes "serve") rows)
 
 -- What is loaded
 
--- what a load is made of, beside its world
+-- what a load is made of, besides its world
 pub record Loaded : Type 0 where
   pub pattern : Pattern
   pub reads : ℕ

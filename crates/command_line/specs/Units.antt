@@ -3,7 +3,7 @@ use Rattle.std.specs.Prelude.{ℕ, ◌-◌, ◌*◌, ◌/◌, ◌%◌, ◌^◌, 
 use Rattle.std.specs.Str.Parse.{digits_value, without_leading_plus}
 use Rattle.clap.specs.{ValueTests.is_numeral, Words.Text}
 
--- a number below 2^32 in decimal digits, before which a plus may stand
+-- a number below 2^32 in decimal digits, which a plus may precede
 abbrev pub number : Text → Option ℕ
 number text =
     let digits = without_leading_plus text in
@@ -29,7 +29,7 @@ seconds_of letter =
     else if letter == 104 then Some 3600
     else None
 
--- the number before the last letter, so many times
+-- the number before the last letter, this many times
 abbrev pub scaled : Text → ℕ → Option ℕ
 scaled text unit = option_map (λ n. n * unit) (number (take (length text - 1) text))
 
@@ -50,10 +50,10 @@ seconds_by (Some unit) text = scaled text unit
 abbrev pub if_within : ℕ → ℕ → ℕ → Option ℕ
 if_within least most n = if nat_le least n && nat_le n most then Some n else None
 
--- 1 block to so many
+-- 1 block to this many
 abbrev pub size_within : ℕ → Text → Option ℕ
 size_within most text = option_and_then (if_within 1 most) (blocks_by (bytes_of (last_letter text)) text)
 
--- so many seconds at least
+-- this many seconds at least
 abbrev pub seconds_within : ℕ → Text → Option ℕ
 seconds_within least text = option_and_then (if_within least (2 ^ 32 - 1)) (seconds_by (seconds_of (last_letter text)) text)

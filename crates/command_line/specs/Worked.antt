@@ -15,7 +15,7 @@ usual = record {
   strict = false;
 }
 
--- so many submitters, one job in flight each, all jobs at once
+-- this many submitters, one job in flight each, all jobs at once
 abbrev pub alone : ℕ → Threading
 alone n = record { submitters = n; depth = 1; log_limit = None }
 

@@ -71,7 +71,7 @@ pub enum CommandLine<'a> {
     Load(Options<'a>, Load<'a>, Serving),
     /// To tell the faults of a script of steps, by its path as in [`Options`].
     Check(Option<&'a str>),
-    /// To tell the faults of a script of jobs, by its path, for so many submitters, 1 to 16.
+    /// To tell the faults of a script of jobs, by its path, for this many submitters, 1 to 16.
     CheckJobs(Option<&'a str>, u16),
     /// To test transcripts.
     Test(Testing<'a>),

@@ -19,7 +19,7 @@ use clap::error::ErrorKind;
 use clap::{Arg, ArgMatches, Command, Error, value_parser};
 use std::alloc::{AllocError, Global};
 
-/// What `nvmesgl --version` says behind the program's name.
+/// What `nvmesgl --version` says after the program's name.
 pub const VERSION: &str = "0.1.0";
 
 const PROGRAM_ABOUT: &str =

@@ -40,7 +40,7 @@ pub(crate) struct Names {
 enum Wrong<'a> {
     /// A number lies outside of its range.
     Number(Number, u32),
-    /// An option's word says no blocks, or not 1 to so many.
+    /// An option's word says no blocks, or not 1 to this many.
     Blocks(&'static str, u32, &'a str),
     /// An option's word says no time, or one of fewer seconds than this.
     Time(&'static str, u32, &'a str),
@@ -86,7 +86,7 @@ fn word<'a>(given: &ArgMatches<'a>, name: &str) -> Option<&'a str>
     given.get_str(name)
 }
 
-/// The blocks that are said under a name, 1 to so many.
+/// The blocks that are said under a name, 1 to this many.
 fn blocks_said<'a>(
     given: &ArgMatches<'a>,
     name: &'static str,
@@ -105,7 +105,7 @@ fn blocks_said<'a>(
     }
 }
 
-/// The time that is said under a name, of so many seconds at least.
+/// The time that is said under a name, of this many seconds at least.
 fn time_said<'a>(
     given: &ArgMatches<'a>,
     name: &'static str,

@@ -28,7 +28,7 @@ static NUMBERS: [Number; 13] = [
 /// What clap says of a number that has other characters than digits.
 const NO_NUMBER: &str = "invalid digit found in string";
 
-/// What clap says behind a number that is above all that it takes.
+/// What clap says after a number that is above all that it takes.
 const TOO_LARGE: &str = " is not in 0..=4294967295";
 
 /// What clap says of a word that no option takes.
@@ -44,7 +44,7 @@ fn number_named(name: &str) -> Option<Number> {
     None
 }
 
-/// Says of a text about an option that is a number what is wanted there; any other text as it is.
+/// Says of a text about an option that is a number what is expected there; any other text as it is.
 fn with_range(alloc: Global, text: String) -> Result<String, AllocError> {
     let Some((front, back)) = text.as_str().split_once(" <N>': ") else {
         return Ok(text);

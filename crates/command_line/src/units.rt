@@ -13,7 +13,7 @@ fn last_letter(text: &str) -> u8
     }
 }
 
-/// How many bytes a letter behind a number stands for.
+/// How many bytes a letter after a number stands for.
 fn bytes_of(letter: u8) -> Option<u64>
     ensures unit { result ≡ spec_bytes_of letter }
     ensures letter { IfSome result (λ _. (1 ≤ letter) × (letter < 128)) }
@@ -27,7 +27,7 @@ fn bytes_of(letter: u8) -> Option<u64>
     }
 }
 
-/// How many seconds a letter behind a number stands for.
+/// How many seconds a letter after a number stands for.
 fn seconds_of(letter: u8) -> Option<u64>
     ensures unit { result ≡ spec_seconds_of letter }
     ensures letter { IfSome result (λ _. (1 ≤ letter) × (letter < 128)) }
@@ -52,7 +52,7 @@ fn plain(text: &str) -> Option<u64>
     }
 }
 
-/// The number before the last letter of a text, so many times.
+/// The number before the last letter of a text, this many times.
 fn scaled(text: &str, unit: u64) -> Option<u64>
     requires some { 1 ≤ spec_last_letter text.now }
     requires letter { spec_last_letter text.now < 128 }
@@ -79,7 +79,7 @@ fn blocks(text: &str) -> Option<u64>
     }
 }
 
-/// The blocks of a text, where they are 1 to so many.
+/// The blocks of a text, where they are 1 to this many.
 pub(crate) fn size_within(text: &str, most: u32) -> Option<u32>
     ensures size { result ≡ spec_size_within most text.now }
     ensures least { IfSome result (λ blocks. 1 ≤ blocks) }
@@ -102,7 +102,7 @@ fn seconds(text: &str) -> Option<u64>
     }
 }
 
-/// The seconds of a text, where they are so many at least and a number of 32 bits.
+/// The seconds of a text, where they are this many at least and a number of 32 bits.
 pub(crate) fn seconds_within(text: &str, least: u32) -> Option<u32>
     ensures { result ≡ spec_seconds_within least text.now }
 {

@@ -18,7 +18,7 @@ pub fn options_are_taken()
     ensures mixed_threads { asked (threads_with (mixed_words ++ codes "--submitters=1" ∷ [])) ≡ Some (threads mixed (alone 1) Ringer) }
 {}
 
-/// A script is a word that belongs to no option, before, behind or between them.
+/// A script is a word that belongs to no option, before, after or between them.
 #[tactic(auto, unfolding(clap::proofs::OnLiterals::clap_on_literals))]
 pub fn scripts_are_words()
     ensures alone { asked (steps_with (codes "read.script" ∷ [])) ≡ Some (steps (record usual { script = Some (codes "read.script") })) }
@@ -126,7 +126,7 @@ pub fn numbers_are_read()
     ensures many_submitters { asked (threads_with (codes "--submitters" ∷ codes "17" ∷ [])) ≡ None }
 {}
 
-/// Who rings serves, or the controller's thread where that is asked for.
+/// Whoever rings serves, or the controller's thread where that is asked for.
 #[tactic(auto, unfolding(clap::proofs::OnLiterals::clap_on_literals))]
 pub fn servers_are_named()
     ensures ringer { asked (threads_with (codes "--serve=ringer" ∷ [])) ≡ Some (threads usual (alone 2) Ringer) }

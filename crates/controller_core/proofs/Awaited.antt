@@ -5,10 +5,10 @@ use Rattle.controller_core.proofs.Rows.{named, some_name, cid_of}
 use Rattle.controller_core.specs.Posting.{completion_by, memory_posted, page_posted, with_posted, post_refusal_at}
 use Rattle.controller_core.specs.Completing.{without_command, command_refusal, complete_refusal, is_abort_of, waits_among}
 use Rattle.controller_core.specs.Contents.{change, Contents, IsController, AreCommands, FitsCommand, FitsWork, is_command, entry_of_work, FetchedCommand, AreAwaited, IsNamedBy, entry_of, FitsVerdict as ContentsFitsVerdict}
-use Rattle.controller_core.specs.{Fetching.{IsBegun, Begins, PostsConflict, LooksAt, FetchesTo, Takes, TakesIn, is_known, live_side}}
-use Rattle.controller_core.specs.{Looks.name_at, Managing.{with_taken, command_of, managed}, declared.command.Work.TheVariants.{Io}}
+use Rattle.controller_core.specs.{Fetching.{IsBegun, PostsConflict, LooksAt, begun, live_side}}
+use Rattle.controller_core.specs.{Looks.name_at, Managing.{with_taken, command_of}, declared.command.Work.TheVariants.{Io}}
 use Rattle.controller_core.specs.declared.{queue.ControllerQueue.ControllerQueue, refusal.Refusal.Refusal}
-use Rattle.std.proofs.Common.{◌≡◌, ℕ, ◌<◌, ◌==◌, ◌&&◌, ◌++◌, ◌∷◌, [], not, Bool, true, false, Option, Some, Result, Ok, Err, cond, List, length, find, slice_set, get_or, if◌then◌else◌, refl, ap, ap₂, sym, ◌∙◌, arith, subst, eqb-true, true≢false, None, zero, suc, ◌||◌, IfSome, map, slice_get, inl, inr, ◌≢◌, ◌+◌, nat_lt, is_none, is_some}
+use Rattle.std.proofs.Common.{◌≡◌, ℕ, ◌<◌, ◌==◌, ◌&&◌, ◌++◌, ◌∷◌, [], not, Bool, true, false, Option, Some, Result, Ok, Err, cond, List, length, find, slice_set, get_or, if◌then◌else◌, refl, ap, ap₂, sym, ◌∙◌, arith, subst, eqb-true, true≢false, None, zero, suc, ◌||◌, IfSome, map, slice_get, inl, inr, ◌+◌, nat_lt, is_none, is_some}
 use Rattle.std.{proofs.lemmas.{Bool.{and_parts, cases_Bool, or_parts, Decides.nat_tests}, Option.{none-some, slice_get_read}}, specs.{Borrow.Bor, List.{AllByRecursion, list_any, count_by}}}
 use Rattle.std.specs.{Option.{option_map, option_map_or, option_copied}, Result.{OnOk, OnErr}}
 use Rattle.admin_commands.specs.Entries.{named_queue, named_command}
@@ -93,7 +93,7 @@ found_last (x ∷ xs) k q cid none own = elim (cases_Bool (is_command q cid x)) 
 pub awaited_changed : (f : FetchedCommand → FetchedCommand) (commands : List FetchedCommand) (own : FetchedCommand) → ((k : FetchedCommand) → IsAlike k (f k))
     → ((k : FetchedCommand) → Awaits (map f commands ++ own ∷ []) k → Awaits (map f commands ++ own ∷ []) (f k)) → own.waiting_abort ≡ None → AreAwaited commands → AreAwaited (map f commands ++ own ∷ [])
 awaited_changed f commands own alike changes none are =
-    all-append (Awaits after) (map f commands) own (go commands (all_awaited commands after commands keeps are)) (subst (λ (o : Option ℕ). IfSome o (IsNamedBy after own)) (sym none) tt)
+    all-append (Awaits after) (map f commands) own (along_commands commands (all_awaited commands after commands keeps are)) (subst (λ (o : Option ℕ). IfSome o (IsNamedBy after own)) (sym none) tt)
   where
     after : List FetchedCommand
     after = map f commands ++ own ∷ []
@@ -101,9 +101,9 @@ awaited_changed f commands own alike changes none are =
     keeps : Keeps commands after
     keeps cid e h = keeps_more (map f commands) own cid e (entry_map f alike commands 0 cid ∙ h)
 
-    go : (xs : List FetchedCommand) → AllByRecursion (Awaits after) xs → AllByRecursion (Awaits after) (map f xs)
-    go [] all = tt
-    go (x ∷ xs) all = (changes x all.0, go xs all.1)
+    along_commands : (xs : List FetchedCommand) → AllByRecursion (Awaits after) xs → AllByRecursion (Awaits after) (map f xs)
+    along_commands [] all = tt
+    along_commands (x ∷ xs) all = (changes x all.0, along_commands xs all.1)
 
 pub named_last : (commands : List FetchedCommand) (own k : FetchedCommand) (cid : ℕ) → find (is_command 0 cid) commands ≡ None → is_command 0 cid own ≡ true
     → is_command (named_queue (entry_of_work own.work)) (named_command (entry_of_work own.work)) k ≡ true → IsNamedBy (commands ++ own ∷ []) k cid
@@ -138,14 +138,14 @@ IsLet q cid k = IfSome k.waiting_abort (λ abort. (x : FetchedCommand) → is_co
 
 found_let : (commands : List FetchedCommand) (q cid abort : ℕ) → ((x : FetchedCommand) → is_command 0 abort x ≡ true → is_command q cid x ≡ false) → find (is_command 0 abort) (without_command q cid commands) ≡ find (is_command 0 abort) commands
 found_let [] q cid abort apart = refl
-found_let (x ∷ xs) q cid abort apart = go (is_command 0 abort x) refl (is_command q cid x) refl (found_let xs q cid abort apart)
+found_let (x ∷ xs) q cid abort apart = by_names (is_command 0 abort x) refl (is_command q cid x) refl (found_let xs q cid abort apart)
   where
-    go : (a : Bool) → is_command 0 abort x ≡ a → (b : Bool) → is_command q cid x ≡ b → find (is_command 0 abort) (without_command q cid xs) ≡ find (is_command 0 abort) xs
+    by_names : (a : Bool) → is_command 0 abort x ≡ a → (b : Bool) → is_command q cid x ≡ b → find (is_command 0 abort) (without_command q cid xs) ≡ find (is_command 0 abort) xs
         → find (is_command 0 abort) (cond (not b) (x ∷ without_command q cid xs) (without_command q cid xs)) ≡ cond a (Some x) (find (is_command 0 abort) xs)
-    go true h true h' rest = absurd (true≢false (sym h' ∙ apart x h))
-    go true h false h' rest = ap (λ (b : Bool). cond b (Some x) (find (is_command 0 abort) (without_command q cid xs))) h
-    go false h true h' rest = rest
-    go false h false h' rest = ap (λ (b : Bool). cond b (Some x) (find (is_command 0 abort) (without_command q cid xs))) h ∙ rest
+    by_names true h true h' rest = absurd (true≢false (sym h' ∙ apart x h))
+    by_names true h false h' rest = ap (λ (b : Bool). cond b (Some x) (find (is_command 0 abort) (without_command q cid xs))) h
+    by_names false h true h' rest = rest
+    by_names false h false h' rest = ap (λ (b : Bool). cond b (Some x) (find (is_command 0 abort) (without_command q cid xs))) h ∙ rest
 
 let_by : (commands : List FetchedCommand) (q cid : ℕ) (k : FetchedCommand) (o : Option ℕ) → IfSome o (λ abort. (x : FetchedCommand) → is_command 0 abort x ≡ true → is_command q cid x ≡ false)
     → IfSome o (IsNamedBy commands k) → IfSome o (IsNamedBy (without_command q cid commands) k)
@@ -170,21 +170,21 @@ other_abort q cid abort other x own = grind (arith, nat_tests, other, own)
 
 lets_io : (commands : List FetchedCommand) (q cid : ℕ) → (q == 0) ≡ false → AllByRecursion (IsLet q cid) commands
 lets_io [] q cid io = tt
-lets_io (x ∷ xs) q cid io = (go x.waiting_abort, lets_io xs q cid io)
+lets_io (x ∷ xs) q cid io = (by_abort x.waiting_abort, lets_io xs q cid io)
   where
-    go : (o : Option ℕ) → IfSome o (λ abort. (y : FetchedCommand) → is_command 0 abort y ≡ true → is_command q cid y ≡ false)
-    go None = tt
-    go (Some abort) = other_queue q cid abort io
+    by_abort : (o : Option ℕ) → IfSome o (λ abort. (y : FetchedCommand) → is_command 0 abort y ≡ true → is_command q cid y ≡ false)
+    by_abort None = tt
+    by_abort (Some abort) = other_queue q cid abort io
 
 lets_none : (commands : List FetchedCommand) (q cid : ℕ) → list_any (λ k. is_abort_of cid k.waiting_abort) commands ≡ false → AllByRecursion (IsLet q cid) commands
 lets_none [] q cid none = tt
 lets_none (x ∷ xs) q cid none =
     let both = or_parts (is_abort_of cid x.waiting_abort) (list_any (λ k. is_abort_of cid k.waiting_abort) xs) none in
-    (go x.waiting_abort both.0, lets_none xs q cid both.1)
+    (by_abort x.waiting_abort both.0, lets_none xs q cid both.1)
   where
-    go : (o : Option ℕ) → is_abort_of cid o ≡ false → IfSome o (λ abort. (y : FetchedCommand) → is_command 0 abort y ≡ true → is_command q cid y ≡ false)
-    go None h = tt
-    go (Some abort) h = other_abort q cid abort h
+    by_abort : (o : Option ℕ) → is_abort_of cid o ≡ false → IfSome o (λ abort. (y : FetchedCommand) → is_command 0 abort y ≡ true → is_command q cid y ≡ false)
+    by_abort None h = tt
+    by_abort (Some abort) h = other_abort q cid abort h
 
 pub awaited_without : (commands : List FetchedCommand) (q cid : ℕ) → ((q == 0) ≡ true → list_any (λ k. is_abort_of cid k.waiting_abort) commands ≡ false) → AreAwaited commands → AreAwaited (without_command q cid commands)
 awaited_without commands q cid none are =
@@ -199,7 +199,7 @@ waits_no : (commands : List FetchedCommand) (k : FetchedCommand) → waits_among
 waits_no commands k alone zeroth = (or_parts _ _ (rw zeroth at alone)).0
 
 pub completes_alone : (c : Contents) (m : Memory) (q cid : ℕ) → complete_refusal c m q cid ≡ None → (q == 0) ≡ true → list_any (λ k. is_abort_of cid k.waiting_abort) c.commands ≡ false
-completes_alone c m q cid ready zeroth = go (find (is_command q cid) c.commands) refl ready
+completes_alone c m q cid ready zeroth = by_command (find (is_command q cid) c.commands) refl ready
   where
     waits : (k : FetchedCommand) (b : Bool) → waits_among c.commands k ≡ b → (if b then Some refusal.Waits else post_refusal_at c.queues m q) ≡ None → waits_among c.commands k ≡ false
     waits k true h ready = absurd (none-some refusal.Waits (sym ready))
@@ -209,9 +209,9 @@ completes_alone c m q cid ready zeroth = go (find (is_command q cid) c.commands)
     walked k true ready = absurd (none-some refusal.Walking (sym ready))
     walked k false ready = waits k (waits_among c.commands k) refl ready
 
-    go : (o : Option FetchedCommand) → find (is_command q cid) c.commands ≡ o → option_map_or (command_refusal c m q) o (Some refusal.NoJob) ≡ None → list_any (λ k. is_abort_of cid k.waiting_abort) c.commands ≡ false
-    go None found ready = absurd (none-some refusal.NoJob (sym ready))
-    go (Some k) found ready =
+    by_command : (o : Option FetchedCommand) → find (is_command q cid) c.commands ≡ o → option_map_or (command_refusal c m q) o (Some refusal.NoJob) ≡ None → list_any (λ k. is_abort_of cid k.waiting_abort) c.commands ≡ false
+    by_command None found ready = absurd (none-some refusal.NoJob (sym ready))
+    by_command (Some k) found ready =
         let is = named q cid c.commands k found in
         subst (λ (d : ℕ). list_any (λ k. is_abort_of d k.waiting_abort) c.commands ≡ false) is.1
         (waits_no c.commands k (walked k _ ready) (ap (λ (r : ℕ). r == 0) is.0 ∙ zeroth))
@@ -253,17 +253,17 @@ name_of commands n q cid k at own =
 pub awaited_is : (commands : List FetchedCommand) (e : SubEntry) (o : Option FetchedCommand) → entry_of commands 0 e.cid ≡ Some e → AreAwaited commands
     → o ≡ find (is_command (named_queue e) (named_command e)) commands → ((n : ℕ) → name_at commands n ≡ some_name (named_queue e) (named_command e) → o ≡ slice_get commands n)
     → option_map_or (λ k. is_abort_of e.cid k.waiting_abort) o false ≡ list_any (λ k. is_abort_of e.cid k.waiting_abort) commands
-awaited_is commands e o there are found alone = go (list_any test commands) refl
+awaited_is commands e o there are found alone = by_presence (list_any test commands) refl
   where
     test : FetchedCommand → Bool
     test k = is_abort_of e.cid k.waiting_abort
 
-    go : (b : Bool) → list_any test commands ≡ b → option_map_or test o false ≡ b
-    go true any =
+    by_presence : (b : Bool) → list_any test commands ≡ b → option_map_or test o false ≡ b
+    by_presence true any =
         let is = some_any test commands any in
         let names = names_by commands e is.command is.command.waiting_abort there (all-at (Awaits commands) commands is.place is.command is.at are) is.passes in
         ap (λ (x : Option FetchedCommand). option_map_or test x false) (alone is.place (name_of commands is.place _ _ is.command is.at names) ∙ is.at) ∙ is.passes
-    go false none =
+    by_presence false none =
         ap (λ (x : Option FetchedCommand). option_map_or test x false) found ∙ none_found_awaited test (is_command (named_queue e) (named_command e)) commands none
 
 -- the same of what was looked up
@@ -295,17 +295,17 @@ pub commands-with : (blocks queues : ℕ) (commands : List FetchedCommand) (k : 
     → count_by (is_command k.q (entry_of_work k.work).cid) commands ≡ 0 → AreCommands blocks queues (commands ++ k ∷ [])
 commands-with blocks queues commands k are there fits none = record {
   each = all-append (FitsCommand blocks queues) commands k are.each (there, fits);
-  differ = λ r d. go r d (is_command r d k) refl;
+  differ = λ r d. by_name r d (is_command r d k) refl;
 }
   where
-    go : (r d : ℕ) (b : Bool) → is_command r d k ≡ b → count_by (is_command r d) (commands ++ k ∷ []) < 2
-    go r d true h =
+    by_name : (r d : ℕ) (b : Bool) → is_command r d k ≡ b → count_by (is_command r d) (commands ++ k ∷ []) < 2
+    by_name r d true h =
         let both = and_parts (k.q == r) ((entry_of_work k.work).cid == d) h in
         let own : count_by (is_command r d) commands ≡ 0 =
         subst (λ (x : ℕ). count_by (is_command x d) commands ≡ 0) (eqb-true k.q r both.0)
         (subst (λ (x : ℕ). count_by (is_command k.q x) commands ≡ 0) (eqb-true (entry_of_work k.work).cid d both.1) none) in
         omega (arith, count-more (is_command r d) commands k, ap one h, own)
-    go r d false h = omega (arith, count-more (is_command r d) commands k, ap one h, are.differ r d)
+    by_name r d false h = omega (arith, count-more (is_command r d) commands k, ap one h, are.differ r d)
 
 pub fault_fits : (blocks : ℕ) (e : SubEntry) → ContentsFitsVerdict (io_fault blocks e)
 fault_fits blocks e = by (is_none (kind_of_opcode e.opcode)) (not (e.nsid == 1)) (not (e.fuse == 0) || not (e.psdt == 1)) (nat_lt 2048 (block_number e)) (nat_lt blocks (first_block e + block_number e))
@@ -318,24 +318,28 @@ fault_fits blocks e = by (is_none (kind_of_opcode e.opcode)) (not (e.nsid == 1))
     by false false false false true = omega arith
     by false false false false false = tt
 
-pub begun_kept : (c : Contents) (q : ℕ) (e : SubEntry) (job : JobContents) (queues : List ControllerQueue) (commands : List FetchedCommand) → IsController c → (q == 0) ≡ false → q < length c.queues → is_some (find (is_command q e.cid) c.commands) ≡ false
-    → IsBegun c.image e job → queues ≡ change q with_taken c.queues → commands ≡ c.commands ++ command_of q (Io job) ∷ [] → IsController (record { queues = queues; commands = commands; image = c.image })
-begun_kept c q e job queues commands is io there free begun eq ec =
+-- a job that is begun over as many blocks fits
+pub begun_fits : (image : List ℕ) (blocks q : ℕ) (e : SubEntry) (job : JobContents) → IsBegun image e job → block_count image ≡ blocks → (q == 0) ≡ false → FitsWork blocks q 0 (Io job)
+begun_fits image blocks q e job begun same io =
+    (io, begun.blocks ∙ same, subst ContentsFitsVerdict (sym begun.verdict) (fault_fits (block_count image) e), omega (arith, begun.left))
+
+pub begun_kept : (c : Contents) (q : ℕ) (job : JobContents) (queues : List ControllerQueue) (commands : List FetchedCommand) → IsController c → q < length c.queues → is_some (find (is_command q job.entry.cid) c.commands) ≡ false
+    → FitsWork (block_count c.image) q 0 (Io job) → queues ≡ change q with_taken c.queues → commands ≡ c.commands ++ command_of q (Io job) ∷ [] → IsController (record { queues = queues; commands = commands; image = c.image })
+begun_kept c q job queues commands is there free fits eq ec =
     record {
       commands =
           subst (λ (n : ℕ). AreCommands (block_count c.image) n commands) (sym (ap length eq ∙ length-change q with_taken c.queues))
           (subst (AreCommands (block_count c.image) (length c.queues)) (sym ec)
-          (commands-with (block_count c.image) (length c.queues) c.commands (command_of q (Io job)) is.commands there
-          (io, begun.blocks, subst ContentsFitsVerdict (sym begun.verdict) (fault_fits (block_count c.image) e), omega (arith, begun.left))
-          (subst (λ (x : SubEntry). count_by (is_command q x.cid) c.commands ≡ 0) (sym begun.entry) (none_found (is_command q e.cid) c.commands (none_is (find (is_command q e.cid) c.commands) free)))));
+          (commands-with (block_count c.image) (length c.queues) c.commands (command_of q (Io job)) is.commands there fits
+          (none_found (is_command q job.entry.cid) c.commands (none_is (find (is_command q job.entry.cid) c.commands) free))));
       awaited = subst AreAwaited (sym ec) (awaited_more c.commands (command_of q (Io job)) is.awaited refl);
     }
 
-pub begun_in : (v c : Contents) (q : ℕ) (e : SubEntry) (job : JobContents) (k : FetchedCommand) (queues : List ControllerQueue) (before commands : List FetchedCommand) → v ≡ c → IsController v → (q == 0) ≡ false → q < length c.queues → is_some (find (is_command q e.cid) c.commands) ≡ false
-    → IsBegun v.image e job → queues ≡ change q with_taken v.queues → before ≡ v.commands → k ≡ command_of q (Io job) → commands ≡ before ++ k ∷ [] → IsController (record { queues = queues; commands = commands; image = v.image })
-begun_in v c q e job k queues before commands same is io there free begun eq eb ek ec =
-    begun_kept v q e job queues commands is io (subst (λ (x : Contents). q < length x.queues) (sym same) there) (subst (λ (x : Contents). is_some (find (is_command q e.cid) x.commands) ≡ false) (sym same) free)
-    begun eq (ec ∙ ap₂ (λ (xs : List FetchedCommand) (x : FetchedCommand). xs ++ x ∷ []) eb ek)
+pub begun_in : (v c : Contents) (q : ℕ) (job : JobContents) (k : FetchedCommand) (queues : List ControllerQueue) (before commands : List FetchedCommand) → v ≡ c → IsController v → q < length c.queues → is_some (find (is_command q job.entry.cid) c.commands) ≡ false
+    → FitsWork (block_count c.image) q 0 (Io job) → queues ≡ change q with_taken v.queues → before ≡ v.commands → k ≡ command_of q (Io job) → commands ≡ before ++ k ∷ [] → IsController (record { queues = queues; commands = commands; image = v.image })
+begun_in v c q job k queues before commands same is there free fits eq eb ek ec =
+    begun_kept v q job queues commands is (subst (λ (x : Contents). q < length x.queues) (sym same) there) (subst (λ (x : Contents). is_some (find (is_command q job.entry.cid) x.commands) ≡ false) (sym same) free)
+    (subst (λ (x : Contents). FitsWork (block_count x.image) q 0 (Io job)) (sym same) fits) eq (ec ∙ ap₂ (λ (xs : List FetchedCommand) (x : FetchedCommand). xs ++ x ∷ []) eb ek)
 
 pub begun_unknown : (commands : List FetchedCommand) (q : ℕ) (e : SubEntry) (job : JobContents) (k : FetchedCommand) → job.entry ≡ e → k ≡ command_of q (Io job) → is_some (find (is_command q e.cid) commands) ≡ false
     → is_some (find (is_command k.q (entry_of_work k.work).cid) commands) ≡ false
@@ -365,24 +369,13 @@ posts_conflict (Ok x) queues q i cid m m' reached reached' queue queue' same the
       touches = d;
     }
 
-pub begins_in : (v c c' : Contents) (q : ℕ) (e : SubEntry) (job : JobContents) (k : FetchedCommand) (queues : List ControllerQueue) (before commands : List FetchedCommand) → v ≡ c
-    → IsBegun v.image e job → queues ≡ change q with_taken v.queues → before ≡ v.commands → k ≡ command_of q (Io job) → commands ≡ before ++ k ∷ [] → c' ≡ record { queues = queues; commands = commands; image = v.image } → Begins c q e c'
-begins_in v c c' q e job k queues before commands same begun eq eb ek ec is =
-    subst (λ (x : Contents). Begins x q e c') same
-    (record {
-      job = job;
-      is = begun;
-      leaves = is ∙ ap₂ (λ (xs : List ControllerQueue) (ys : List FetchedCommand). record { queues = xs; commands = ys; image = v.image }) eq (ec ∙ ap₂ (λ (xs : List FetchedCommand) (x : FetchedCommand). xs ++ x ∷ []) eb ek);
-    })
+pub begun_is : (v c c' : Contents) (q : ℕ) (job : JobContents) (k : FetchedCommand) (queues : List ControllerQueue) (before commands : List FetchedCommand) → v ≡ c
+    → queues ≡ change q with_taken v.queues → before ≡ v.commands → k ≡ command_of q (Io job) → commands ≡ before ++ k ∷ [] → c' ≡ record { queues = queues; commands = commands; image = v.image } → c' ≡ begun q job c
+begun_is v c c' q job k queues before commands same eq eb ek ec is =
+    subst (λ (x : Contents). c' ≡ begun q job x) same
+    (is ∙ ap₂ (λ (xs : List ControllerQueue) (ys : List FetchedCommand). record { queues = xs; commands = ys; image = v.image }) eq (ec ∙ ap₂ (λ (xs : List FetchedCommand) (x : FetchedCommand). xs ++ x ∷ []) eb ek))
 
 -- An entry whose identifier is unknown
-
-no_zero : (q : ℕ) → q ≢ 0 → (q == 0) ≡ false
-no_zero q ne = go (q == 0) refl
-  where
-    go : (b : Bool) → (q == 0) ≡ b → b ≡ false
-    go true h = absurd (ne (eqb-true q 0 h))
-    go false h = refl
 
 queue_there : (q : ℕ) (queues : List ControllerQueue) (controller : ControllerSide) → live_side (slice_get queues q) ≡ Some controller → q < length queues
 queue_there q [] controller e = cc
@@ -396,55 +389,3 @@ looked_there c m reached q e reached' looks = queue_there q c.queues looks.contr
 pub found_by : {X : Type 0} (seen : Option (Bor X)) (o : Option X) → option_copied seen ≡ o → is_some seen ≡ is_some o
 found_by None o is = ap is_some is
 found_by (Some x) o is = ap is_some is
-
--- An entry whose identifier is known
-
-pub fetches_conflict : (pages : ℕ) (v c c' : Contents) (queues : List ControllerQueue) (m m' m'' : Memory) (q : ℕ) (e : SubEntry) (reached looked reached' : List ℕ) → v ≡ c
-    → is_some (find (is_command q e.cid) v.commands) ≡ true → LooksAt c m reached q e looked → m' ≡ m → None ≡ post_refusal_at v.queues m' q
-    → PostsConflict v.queues q e.cid m' looked queues m'' reached' → c' ≡ record { queues = queues; commands = v.commands; image = v.image } → FetchesTo c pages m reached q e.cid c' m'' reached'
-fetches_conflict pages v c c' queues m m' m'' q e reached looked reached' same found looks em room answers is =
-    let known : is_known c q e ≡ true =
-    subst (λ (x : Contents). is_some (find (is_command q e.cid) x.commands) ≡ true) same found in
-    record {
-      entry = e;
-      looked = looked;
-      looks = looks;
-      named = refl;
-      room = ap (λ (b : Bool). if b then post_refusal_at c.queues m q else None) known
-          ∙ sym (room ∙ ap₂ (λ (x : Contents) (n : Memory). post_refusal_at x.queues n q) same em);
-      takes = subst (λ (b : Bool). Takes b c pages q e m looked c' m'' reached') (sym known)
-          (subst (λ (x : Contents). Takes true x pages q e m looked c' m'' reached') same
-          (subst (λ (n : Memory). Takes true v pages q e n looked c' m'' reached') em
-          (subst (λ (x : Contents). Takes true v pages q e m' looked x m'' reached') (sym is) (answers, refl, refl))));
-    }
-
--- and one of queue 0 whose identifier is not
-pub manages_fetch : (pages : ℕ) (v c c' : Contents) (m m' : Memory) (reached : List ℕ) (q : ℕ) (e : SubEntry) (reached' : List ℕ) → v ≡ c
-    → is_some (find (is_command q e.cid) v.commands) ≡ false → q ≡ 0 → LooksAt c m reached q e reached' → m' ≡ m → c' ≡ managed pages e c → FetchesTo c pages m reached q e.cid c' m' reached'
-manages_fetch pages v c c' m m' reached q e reached' same none zeroth looks after managed_by =
-    let unknown : is_known c q e ≡ false =
-    subst (λ (x : Contents). is_some (find (is_command q e.cid) x.commands) ≡ false) same none in
-    record {
-      entry = e;
-      looked = reached';
-      looks = looks;
-      named = refl;
-      room = ap (λ (b : Bool). if b then post_refusal_at c.queues m q else None) unknown;
-      takes = subst (λ (b : Bool). Takes b c pages q e m reached' c' m' reached') (sym unknown)
-          (subst (λ (b : Bool). TakesIn b c pages q e c') (sym (ap (λ (k : ℕ). k == 0) zeroth)) managed_by, after, refl);
-    }
-
-pub begins_fetch : (pages : ℕ) (v c c' : Contents) (m m' : Memory) (reached : List ℕ) (q : ℕ) (e : SubEntry) (reached' : List ℕ) → v ≡ c
-    → is_some (find (is_command q e.cid) v.commands) ≡ false → q ≢ 0 → LooksAt c m reached q e reached' → m' ≡ m → Begins c q e c' → FetchesTo c pages m reached q e.cid c' m' reached'
-begins_fetch pages v c c' m m' reached q e reached' same none ne looks after begins =
-    let unknown : is_known c q e ≡ false =
-    subst (λ (x : Contents). is_some (find (is_command q e.cid) x.commands) ≡ false) same none in
-    record {
-      entry = e;
-      looked = reached';
-      looks = looks;
-      named = refl;
-      room = ap (λ (b : Bool). if b then post_refusal_at c.queues m q else None) unknown;
-      takes = subst (λ (b : Bool). Takes b c pages q e m reached' c' m' reached') (sym unknown)
-          (subst (λ (b : Bool). TakesIn b c pages q e c') (sym (no_zero q ne)) begins, after, refl);
-    }

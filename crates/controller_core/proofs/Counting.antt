@@ -68,12 +68,12 @@ few_one commands q cid k found few going = subst (λ (o : Option FetchedCommand)
 -- a table in which a command is put back as it was
 unchanged : (rows : Rows) (q cid : ℕ) (k : FetchedCommand) → value_at rows q cid ≡ Some k → with_value rows q cid k ≡ rows
 unchanged [] q cid k has = refl
-unchanged (row ∷ rows) q cid k has = go (is_at row q cid) has (unchanged rows q cid k)
+unchanged (row ∷ rows) q cid k has = by_row (is_at row q cid) has (unchanged rows q cid k)
   where
-    go : (here : Bool) → (if here then Some row.value else value_at rows q cid) ≡ Some k → (value_at rows q cid ≡ Some k → with_value rows q cid k ≡ rows)
+    by_row : (here : Bool) → (if here then Some row.value else value_at rows q cid) ≡ Some k → (value_at rows q cid ≡ Some k → with_value rows q cid k ≡ rows)
         → (if here then record row { value = k } ∷ rows else row ∷ with_value rows q cid k) ≡ row ∷ rows
-    go true is behind = let same : row.value ≡ k = cc in rw (← same) refl
-    go false is behind = ap (λ rest. row ∷ rest) (behind is)
+    by_row true is behind = let same : row.value ≡ k = cc in rw (← same) refl
+    by_row false is behind = ap (λ rest. row ∷ rest) (behind is)
 
 -- What the walk of a command leaves of all commands, done or refused.
 module _ (rows : Rows) (q cid : ℕ) (k k' : FetchedCommand) (m m' : Memory) (reached reached' : List ℕ) (n : AreNamed rows) (has : value_at rows q cid ≡ Some k) where
@@ -121,11 +121,11 @@ count_read counts q i n same inside is = is ∙ get_or_default_zero counts i n (
 
 any_counted : {A : Type 0} (p : A → Bool) (xs : List A) → list_any p xs ≡ not (count_by p xs == 0)
 any_counted p [] = refl
-any_counted p (x ∷ xs) = go (p x) (any_counted p xs) ∙ ap (λ (n : ℕ). not (n == 0)) (sym (count-cons p x xs))
+any_counted p (x ∷ xs) = by_test (p x) (any_counted p xs) ∙ ap (λ (n : ℕ). not (n == 0)) (sym (count-cons p x xs))
   where
-    go : (b : Bool) → list_any p xs ≡ not (count_by p xs == 0) → (b || list_any p xs) ≡ not (one b + count_by p xs == 0)
-    go true rest = grind arith
-    go false rest = rest ∙ ap (λ (n : ℕ). not (n == 0)) (omega arith)
+    by_test : (b : Bool) → list_any p xs ≡ not (count_by p xs == 0) → (b || list_any p xs) ≡ not (one b + count_by p xs == 0)
+    by_test true rest = grind arith
+    by_test false rest = rest ∙ ap (λ (n : ℕ). not (n == 0)) (omega arith)
 
 -- the count tells it
 pub any_count : (commands : List FetchedCommand) (q n : ℕ) → n ≡ count_of commands q → not (n == 0) ≡ list_any (λ k. k.q == q) commands
@@ -140,12 +140,12 @@ counted_nowhere counts commands q i are same past = sym (get_or_past counts i 0 
 -- No commands
 
 pub none_counted : (n : ℕ) (counts : List ℕ) → counts ≡ replicate {A = ℕ} n 0 → AreCounted counts []
-none_counted n counts zeros q = ap (λ (xs : List ℕ). get_or xs q 0) zeros ∙ go n q
+none_counted n counts zeros q = ap (λ (xs : List ℕ). get_or xs q 0) zeros ∙ each_is_zero n q
   where
-    go : (n q : ℕ) → get_or (replicate {A = ℕ} n 0) q 0 ≡ 0
-    go zero q = refl
-    go (suc n) zero = refl
-    go (suc n) (suc q) = go n q
+    each_is_zero : (n q : ℕ) → get_or (replicate {A = ℕ} n 0) q 0 ≡ 0
+    each_is_zero zero q = refl
+    each_is_zero (suc n) zero = refl
+    each_is_zero (suc n) (suc q) = each_is_zero n q
 
 -- A command more
 
@@ -209,13 +209,13 @@ place_counted counts rows q cid k n are has = inside counts q (one_counted count
 one_less : (counts : List ℕ) (rows : Rows) (q cid n : ℕ) (k : FetchedCommand) → AreNamed rows → AreCounted counts (commands_of rows) → value_at rows q cid ≡ Some k → n ≡ get_or counts q 0
     → AreCounted (slice_set counts q (n - 1)) (commands_of (without rows q cid))
 one_less counts rows q cid n k names are has is i =
-    with_count counts q i (n - 1) (place_counted counts rows q cid k names are has) ∙ go (i == q) refl
+    with_count counts q i (n - 1) (place_counted counts rows q cid k names are has) ∙ by_queue (i == q) refl
   where
-    go : (b : Bool) → (i == q) ≡ b → (if b then n - 1 else get_or counts i 0) ≡ count_of (commands_of (without rows q cid)) i
-    go true same =
+    by_queue : (b : Bool) → (i == q) ≡ b → (if b then n - 1 else get_or counts i 0) ≡ count_of (commands_of (without rows q cid)) i
+    by_queue true same =
         let own : i ≡ q = eqb-true i q same in
         omega (arith, is, are q, less rows q cid q k names has, ap one (eq-eqb q q refl), ap (count_of (commands_of (without rows q cid))) own)
-    go false other = omega (arith, are i, less rows q cid i k names has, ap one (eqb-turned q i ∙ other))
+    by_queue false other = omega (arith, are i, less rows q cid i k names has, ap one (eqb-turned q i ∙ other))
 
 pub counted_without : (counts : List ℕ) (rows : Rows) (q cid i n : ℕ) (k : FetchedCommand) → AreNamed rows → AreCounted counts (commands_of rows) → value_at rows q cid ≡ Some k → i ≡ q → n ≡ get_or counts i n
     → AreCounted (slice_set counts i (n - 1)) (commands_of (without rows q cid))
@@ -288,11 +288,11 @@ one_fixed q x other = rw other refl
 
 all_fixed : (q : ℕ) (xs : List FetchedCommand) → count_of xs q ≡ 0 → xs ≡ map (stopped_with_queue q) xs
 all_fixed q [] none = refl
-all_fixed q (x ∷ xs) none = go (x.q == q) refl (count-cons (λ (k : FetchedCommand). k.q == q) x xs) (all_fixed q xs)
+all_fixed q (x ∷ xs) none = by_queue (x.q == q) refl (count-cons (λ (k : FetchedCommand). k.q == q) x xs) (all_fixed q xs)
   where
-    go : (b : Bool) → (x.q == q) ≡ b → count_of (x ∷ xs) q ≡ one (x.q == q) + count_of xs q → (count_of xs q ≡ 0 → xs ≡ map (stopped_with_queue q) xs) → x ∷ xs ≡ map (stopped_with_queue q) (x ∷ xs)
-    go true own cons rest = absurd (omega (arith, cons, none, ap one own))
-    go false other cons rest = ap₂ (λ (y : FetchedCommand) (ys : List FetchedCommand). y ∷ ys) (sym (one_fixed q x other)) (rest (omega (arith, cons, none)))
+    by_queue : (b : Bool) → (x.q == q) ≡ b → count_of (x ∷ xs) q ≡ one (x.q == q) + count_of xs q → (count_of xs q ≡ 0 → xs ≡ map (stopped_with_queue q) xs) → x ∷ xs ≡ map (stopped_with_queue q) (x ∷ xs)
+    by_queue true own cons rest = absurd (omega (arith, cons, none, ap one own))
+    by_queue false other cons rest = ap₂ (λ (y : FetchedCommand) (ys : List FetchedCommand). y ∷ ys) (sym (one_fixed q x other)) (rest (omega (arith, cons, none)))
 
 pub swept_rest : (q i : ℕ) (xs : List FetchedCommand) → count_of (drop i xs) q ≡ 0 → swept (stopped_with_queue q) i xs ≡ map (stopped_with_queue q) xs
 swept_rest q zero xs none = all_fixed q xs none
@@ -329,11 +329,11 @@ left_next q i xs x at =
 
 found-place : {A : Type 0} (p : A → Bool) (xs : List A) (x : A) → find p xs ≡ Some x → (k : ℕ) × (k < length xs) × (slice_get xs k ≡ Some x)
 found-place p [] x h = cc
-found-place p (y ∷ xs) x h = go (p y) h (found-place p xs x)
+found-place p (y ∷ xs) x h = by_test (p y) h (found-place p xs x)
   where
-    go : (b : Bool) → (if b then Some y else find p xs) ≡ Some x → (find p xs ≡ Some x → (k : ℕ) × (k < length xs) × (slice_get xs k ≡ Some x)) → (k : ℕ) × (k < length (y ∷ xs)) × (slice_get (y ∷ xs) k ≡ Some x)
-    go true h later = (zero, omega arith, h)
-    go false h later = let found = later h in let within = found.1 in (suc found.0, omega arith, found.2)
+    by_test : (b : Bool) → (if b then Some y else find p xs) ≡ Some x → (find p xs ≡ Some x → (k : ℕ) × (k < length xs) × (slice_get xs k ≡ Some x)) → (k : ℕ) × (k < length (y ∷ xs)) × (slice_get (y ∷ xs) k ≡ Some x)
+    by_test true h later = (zero, omega arith, h)
+    by_test false h later = let found = later h in let within = found.1 in (suc found.0, omega arith, found.2)
 
 -- a command more that is stuck
 pub stuck_named : (c : Contents) (m : Memory) (n q cid : ℕ)
@@ -356,11 +356,11 @@ past_names (x ∷ xs) (suc n) none = omega (arith, past_names xs n none)
 -- where each command is stuck, each name is
 pub all_stuck : (c : Contents) (m : Memory) (n : ℕ) → length c.commands ≤ n
     → ((k : ℕ) → k < n → (x : FetchedCommand) → slice_get c.commands k ≡ Some x → IsStuck c m x.q (entry_of_work x.work).cid) → (q cid : ℕ) → IsStuck c m q cid
-all_stuck c m n past below q cid = go (find (is_command q cid) c.commands) refl
+all_stuck c m n past below q cid = by_command (find (is_command q cid) c.commands) refl
   where
-    go : (o : Option FetchedCommand) → find (is_command q cid) c.commands ≡ o → IsStuck c m q cid
-    go None none = (rw none refl, rw none refl)
-    go (Some x) found =
+    by_command : (o : Option FetchedCommand) → find (is_command q cid) c.commands ≡ o → IsStuck c m q cid
+    by_command None none = (rw none refl, rw none refl)
+    by_command (Some x) found =
         let (k, within, at) = found-place (is_command q cid) c.commands x found in
         let is = named q cid c.commands x found in
         let stuck : IsStuck c m x.q (entry_of_work x.work).cid = below k (omega arith) x at in

@@ -5,3 +5,5 @@ pub mod Managing
 pub mod ResetQueues
 pub mod WorkedReads
 pub mod Counting
+pub mod Fetched
+pub mod Ended

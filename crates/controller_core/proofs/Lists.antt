@@ -246,11 +246,11 @@ abbrev cause_of : Contents → Memory → ℕ → SubEntry → Option Refusal
 cause_of c m q e = if is_known c q e then entry_refusal c m q e else Some refusal.Memory
 
 pub one_refusal : RefusesOneWay
-one_refusal c m r q why why' t t' = go (look_refusal c m q)
+one_refusal c m r q why why' t t' = by_refusal (look_refusal c m q)
   where
-    go : (o : Option Refusal) → RefusedBy o c m r q why t → RefusedBy o c m r q why' t' → (why ≡ why') × (t ≡ t')
-    go (Some cause) h g = (h.0 ∙ sym g.0, h.1 ∙ sym g.1)
-    go None h g =
+    by_refusal : (o : Option Refusal) → RefusedBy o c m r q why t → RefusedBy o c m r q why' t' → (why ≡ why') × (t ≡ t')
+    by_refusal (Some cause) h g = (h.0 ∙ sym g.0, h.1 ∙ sym g.1)
+    by_refusal None h g =
         let l = one_look c m r q h.entry g.entry t t' h.looks g.looks in
         (same_found h.cause (ap (cause_of c m q) l.0 ∙ g.cause), l.1)
 

@@ -470,11 +470,11 @@ few_done blocks q done (Io job) units waiting fits going = omega (arith, fits.3)
 few_done blocks q done (Admin entry status dw0) units waiting fits going = cc
 
 pub few_walked : (c : Contents) (q cid : ℕ) → IsController c → refusal_among c.commands q cid ≡ None → IfSome (find (is_command q cid) c.commands) (λ k. k.units_done ≤ 12545)
-few_walked c q cid is accepted = go (find (is_command q cid) c.commands) refl
+few_walked c q cid is accepted = by_command (find (is_command q cid) c.commands) refl
   where
-    go : (o : Option FetchedCommand) → find (is_command q cid) c.commands ≡ o → IfSome o (λ k. k.units_done ≤ 12545)
-    go None found = tt
-    go (Some k) found =
+    by_command : (o : Option FetchedCommand) → find (is_command q cid) c.commands ≡ o → IfSome o (λ k. k.units_done ≤ 12545)
+    by_command None found = tt
+    by_command (Some k) found =
         let fits = all-found (FitsCommand (block_count c.image) (length c.queues)) (is_command q cid) c.commands k found is.commands.each in
         let going : ended_refusal k ≡ None = sym (ap (λ (o : Option FetchedCommand). option_map_or ended_refusal o (Some refusal.NoJob)) found) ∙ accepted in
         few_done (block_count c.image) k.q k.units_done k.work k.units_done k.waiting_abort fits.1 going

@@ -116,7 +116,7 @@ all_idle q (queue ∷ queues) = (reset_idle q queue, all_idle (suc q) queues)
 
 -- a head that is taken leaves an idle queue idle
 heard_idle : (v : ℕ) (queue : ControllerQueue) → IsIdle queue → IsIdle (with_head v queue)
-heard_idle v queue is = go (is_in_range queue.controller.entries queue.controller.ring.known_head queue.controller.ring.tail v)
+heard_idle v queue is = by_range (is_in_range queue.controller.entries queue.controller.ring.known_head queue.controller.ring.tail v)
   where
     heard : ControllerQueue
     heard = with_side (record queue.controller { ring = hearing_head v queue.controller.ring }) queue
@@ -126,9 +126,9 @@ heard_idle v queue is = go (is_in_range queue.controller.entries queue.controlle
     side true m h = h
     side false m h = refl
 
-    go : (b : Bool) → IsIdle (if b then heard else queue)
-    go true m = side (is_live queue.state) m (is m)
-    go false m = is m
+    by_range : (b : Bool) → IsIdle (if b then heard else queue)
+    by_range true m = side (is_live queue.state) m (is m)
+    by_range false m = is m
 
 quiet : (c : Contents) → c.commands ≡ [] → AllByRecursion IsIdle c.queues → IsQuiet c
 quiet c none are = record {

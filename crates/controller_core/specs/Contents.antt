@@ -24,6 +24,9 @@ pub record Contents : Type 0 where
   pub commands : List FetchedCommand
   pub image : List ℕ
 
+abbrev pub contents : List ControllerQueue → List FetchedCommand → List ℕ → Contents
+contents queues commands image = record { queues = queues; commands = commands; image = image }
+
 abbrev pub entry_of_work : Work → SubEntry
 entry_of_work (Io job) = job.entry
 entry_of_work (Admin entry status dw0) = entry

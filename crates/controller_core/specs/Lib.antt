@@ -10,4 +10,5 @@ pub mod Resetting
 pub mod Looks
 pub mod Tables
 pub mod Laws
+pub mod Lending
 pub mod Worked

@@ -1,21 +1,23 @@
 //! The controller completes a command.
 
-ghost use Rattle.std.specs.Prelude.{◌≡◌, ◌<◌, ◌≤◌, IfErr, IfOk, IsSome, Some, OnOk, OnErr, length, find};
+ghost use Rattle.std.specs.Prelude.{◌≡◌, ◌<◌, ◌≤◌, IfErr, IfOk, IsSome, Some, false, OnOk, OnErr, length, find};
 ghost use Rattle.std.specs.Option.{option_and_then};
 ghost use Rattle.std.specs.Result.{result_err};
 ghost use Rattle.block_image.specs.Blocks.{block_count};
 ghost use Rattle.page_memory.specs.Memory.{Memory};
 ghost use Rattle.controller_core.specs.Posting.{post_refusal_at};
 ghost use Rattle.controller_core.specs.Completing.{complete_refusal, status_of_end, image_of_end, queues_of_end, without_submission, CanEnd, CompletesTo};
-ghost use Rattle.controller_core.specs.Contents.{change, dw0_of_work, verdict_of_work, is_command, is_deletion, IsController};
+ghost use Rattle.controller_core.specs.Contents.{contents, change, dw0_of_work, verdict_of_work, is_command, is_deletion, IsController};
+ghost use Rattle.controller_core.specs.Lending.{command_lacks, unready, work_lacks};
 
 use crate::command::Work;
+use crate::commands::Commands;
 use crate::controller::Controller;
 use crate::post::post_at;
 use crate::queue::ControllerQueue;
 use crate::refusal::Refusal;
 use admin_commands::{SqState, queue_of};
-use block_image::Image;
+use block_image::Blocks;
 use entry_codec::admin_opcode::DELETE_IO_SQ;
 use entry_codec::{Status, SubEntry};
 use io_commands::{Job, finish_job};
@@ -41,10 +43,11 @@ fn drop_submission<A: Allocator>(queues: &mut Vec<ControllerQueue, A>, q: u16)
 
 impl<A: Allocator> Work<Job<A>> {
     /// How a command ends over an image: the status of its completion, and its command specific double word.
-    fn end<B: Allocator>(&self, image: &Image<B>) -> (Status, u32)
+    fn end<I: Blocks>(&self, image: &I) -> (Status, u32)
         requires verdict { IsSome (verdict_of_work self.now) }
-        requires over { CanEnd (block_count image.now) self.now }
-        ensures status { result.0 ≡ status_of_end image.now self.now }
+        requires over { CanEnd (block_count (I.bytes image.now)) self.now }
+        requires at_hand { work_lacks (I.at_hand image.now) self.now ≡ false }
+        ensures status { result.0 ≡ status_of_end (I.bytes image.now) self.now }
         ensures dw0 { result.1 ≡ dw0_of_work self.now }
     {
         match self {
@@ -52,20 +55,32 @@ impl<A: Allocator> Work<Job<A>> {
             Work::Admin { status, dw0, .. } => (*status, *dw0),
         }
     }
+
+    /// Whether the command's end reads or writes blocks that are not at hand.
+    pub(crate) fn lacks_blocks<I: Blocks>(&self, image: &I) -> bool
+        ensures { result ≡ work_lacks (I.at_hand image.now) self.now }
+    {
+        match self {
+            Work::Io(job) => job.lacks_blocks(image),
+            Work::Admin { .. } => false,
+        }
+    }
 }
 
 /// Does what a command does at its end: a Write that ended well puts its bytes over its blocks, and behind a successful deletion of a
 /// submission queue that queue is not there.
-fn settle<A: Allocator>(
+fn settle<A: Allocator, I: Blocks>(
     queues: &mut Vec<ControllerQueue, A>,
-    image: &mut Image<A>,
+    image: &mut I,
     work: Work<Job<A>>,
 )
     requires verdict { IsSome (verdict_of_work work) }
-    requires over { CanEnd (block_count image.old) work }
+    requires over { CanEnd (block_count (I.bytes image.old)) work }
+    requires at_hand { work_lacks (I.at_hand image.old) work ≡ false }
     ensures queues { queues.new.items ≡ queues_of_end work queues.old.items }
-    ensures image { image.new ≡ image_of_end image.old work }
-    ensures as_long { length image.new ≡ length image.old }
+    ensures image { I.bytes image.new ≡ image_of_end (I.bytes image.old) work }
+    ensures as_long { length (I.bytes image.new) ≡ length (I.bytes image.old) }
+    ensures place { I.place image.new ≡ I.place image.old }
 {
     match work {
         Work::Io(job) => {
@@ -79,13 +94,46 @@ fn settle<A: Allocator>(
     }
 }
 
-impl<A: Allocator> Controller<A> {
+/// Posts the completion of a command that can complete, forgets the command, and does what it does at its end, over blocks that are at hand for
+/// it. Where the posting is refused nothing changed.
+pub(crate) fn finish_at<A: Allocator, I: Blocks, D: Dma>(
+    queues: &mut Vec<ControllerQueue, A>,
+    commands: &mut Commands<A>,
+    image: &mut I,
+    q: u16,
+    cid: u16,
+    dma: &mut D,
+) -> Result<(), Refusal>
+    requires sound { IsController (contents queues.old.items commands.old.list (I.bytes image.old)) }
+    requires ended { IsSome (option_and_then (λ k. verdict_of_work k.work) (find (is_command q cid) commands.old.list)) }
+    requires ready { (m : Memory) → complete_refusal (contents queues.old.items commands.old.list (I.bytes image.old)) m q cid ≡ post_refusal_at queues.old.items m q }
+    requires at_hand { command_lacks (I.at_hand image.old) commands.old.list q cid ≡ false }
+    requires room { length (D.reached dma.old) ≤ 2 }
+    ensures refusal { result_err result ≡ post_refusal_at queues.old.items (D.memory dma.old) q }
+    ensures refused { OnErr result ((queues.new.items ≡ queues.old.items) × (commands.new ≡ commands.old) × (I.bytes image.new ≡ I.bytes image.old) × (D.memory dma.new ≡ D.memory dma.old) × (D.reached dma.new ≡ D.reached dma.old)) }
+    ensures completes { OnOk result (CompletesTo (contents queues.old.items commands.old.list (I.bytes image.old)) q cid (D.memory dma.old) (D.reached dma.old) (contents queues.new.items commands.new.list (I.bytes image.new)) (D.memory dma.new) (D.reached dma.new)) }
+    ensures sound { IsController (contents queues.new.items commands.new.list (I.bytes image.new)) }
+    ensures counted { commands.new.queues ≡ commands.old.queues }
+    ensures count { length queues.new.items ≡ length queues.old.items }
+    ensures place { I.place image.new ≡ I.place image.old }
+    ensures unlisted { D.unlisted dma.new ≡ D.unlisted dma.old }
+    ensures pool { D.page_count dma.new ≡ D.page_count dma.old }
+{
+    let (status, dw0) = commands.get(q, cid).unwrap().work.end(image);
+    post_at(queues, q, cid, status, dw0, dma)?;
+    let command = commands.take(q, cid).unwrap();
+    settle(queues, image, command.work);
+    Ok(())
+}
+
+impl<A: Allocator, I: Blocks> Controller<A, I> {
     /// Whether a command can complete, as far as that lies in the command.
     ///
     /// # Errors
     ///
     /// The first cause against it.
     pub(crate) fn check_complete(&self, q: u16, cid: u16) -> Result<(), Refusal>
+        ensures cause { result_err result ≡ unready self.now q cid }
         ensures refused { IfErr result (λ why. (m : Memory) → complete_refusal self.now m q cid ≡ Some why) }
         ensures ready { IfOk result (λ _. (m : Memory) → complete_refusal self.now m q cid ≡ post_refusal_at self.now.queues m q) }
         ensures ended { IfOk result (λ _. IsSome (option_and_then (λ k. verdict_of_work k.work) (find (is_command q cid) self.now.commands))) }
@@ -101,7 +149,9 @@ impl<A: Allocator> Controller<A> {
         }
         Ok(())
     }
+}
 
+impl<A: Allocator> Controller<A> {
     /// Posts the completion of a fetched command, and forgets the command. A Write that ends well changes the image here, and
     /// behind a successful deletion of a submission queue that is not there (NVM Express Base Specification 2.0, "Common Completion Queue Entry",
     /// section 3.3.3.2). The list of the touched pages has two pages at most before, and gets that of the slot.
@@ -121,10 +171,13 @@ impl<A: Allocator> Controller<A> {
         ensures pool { D.page_count dma.new ≡ D.page_count dma.old }
     {
         self.check_complete(q, cid)?;
-        let (status, dw0) = self.commands.get(q, cid).unwrap().work.end(&self.image);
-        post_at(&mut self.queues, q, cid, status, dw0, dma)?;
-        let command = self.commands.take(q, cid).unwrap();
-        settle(&mut self.queues, &mut self.image, command.work);
-        Ok(())
+        finish_at(
+            &mut self.queues,
+            &mut self.commands,
+            &mut self.image,
+            q,
+            cid,
+            dma,
+        )
     }
 }

@@ -2,6 +2,7 @@
 
 ghost use Rattle.std.specs.Prelude.{◌≡◌, ◌≤◌, ◌+◌, ◌++◌, [], ℕ, Some, IfOk, IfErr, find, length};
 ghost use Rattle.std.specs.Option.{option_copied};
+ghost use Rattle.block_image.specs.Blocks.{block_count};
 ghost use Rattle.controller_core.specs.Contents.{is_command};
 ghost use Rattle.controller_core.specs.Looks.{name_at};
 ghost use Rattle.controller_core.specs.Opening.{fresh_queue, queues_from, opened};
@@ -10,7 +11,7 @@ use crate::command::FetchedCommand;
 use crate::commands::Commands;
 use crate::queue::{ControllerQueue, QueuePages};
 use admin_commands::SqState;
-use block_image::Image;
+use block_image::{Blocks, Image};
 use io_commands::Job;
 use queue_pair::DevicePair;
 use std::alloc::{AllocError, Allocator, Global};
@@ -18,23 +19,26 @@ use std::marker::Model;
 use thiserror::Error;
 
 /// A controller. Contracts see its queues, the commands that it fetched and did not complete, in the order of the fetches, and its image.
+///
+/// The blocks of its namespace are those of an image that it holds, or, with [`Away`](block_image::Away), are lent for each call that reads or
+/// writes them.
 #[derive(Drop)]
-pub struct Controller<A: Allocator = Global> {
+pub struct Controller<A: Allocator = Global, I: Blocks = Image<A>> {
     pub(crate) alloc: A,
     pub(crate) queues: Vec<ControllerQueue, A>,
     pub(crate) commands: Commands<A>,
-    pub(crate) image: Image<A>,
+    pub(crate) image: I,
 }
 
-impl<A: Allocator> Model for Controller<A> {
+impl<A: Allocator, I: Blocks> Model for Controller<A, I> {
     ghost use Rattle.std.specs.Prelude.{◌≡◌, ◌≤◌, length};
     ghost use Rattle.controller_core.specs.Contents.{Contents, IsController};
 
     ghost Value = { Contents };
 
-    ghost view = { λ c. record { queues = c.queues.items; commands = c.commands.list; image = c.image } };
+    ghost view = { λ c. record { queues = c.queues.items; commands = c.commands.list; image = I.bytes c.image } };
 
-    ghost invariant = { λ c. IsController (record { queues = c.queues.items; commands = c.commands.list; image = c.image }) × (c.commands.queues ≡ length c.queues.items) × (length c.queues.items ≤ 65536) };
+    ghost invariant = { λ c. IsController (record { queues = c.queues.items; commands = c.commands.list; image = I.bytes c.image }) × (c.commands.queues ≡ length c.queues.items) × (length c.queues.items ≤ 65536) };
 }
 
 /// Memory was refused to a controller that opens.
@@ -77,7 +81,7 @@ fn open_queues<A: Allocator>(
 }
 
 /// The queues that open, and no commands of them.
-fn open_parts<A: Allocator + Copy>(
+pub(crate) fn open_parts<A: Allocator + Copy>(
     alloc: A,
     entries: u16,
     pages: &[QueuePages],
@@ -125,6 +129,22 @@ impl<A: Allocator + Copy> Controller<A> {
 }
 
 impl<A: Allocator> Controller<A> {
+    /// The image.
+    pub fn image(&self) -> &Image<A>
+        ensures { result.now ≡ self.now.image }
+    {
+        &self.image
+    }
+}
+
+impl<A: Allocator, I: Blocks> Controller<A, I> {
+    /// How many blocks its namespace has.
+    pub fn blocks(&self) -> u32
+        ensures { result ≡ block_count self.now.image }
+    {
+        self.image.blocks()
+    }
+
     /// The queues, by their numbers.
     pub fn queues(&self) -> &[ControllerQueue]
         ensures { result.now ≡ self.now.queues }
@@ -158,12 +178,5 @@ impl<A: Allocator> Controller<A> {
         ensures { (n : ℕ) → name_at self.now.commands n ≡ Some (q, cid) → result ≡ name_at self.now.commands (n + 1) }
     {
         self.commands.next(q, cid)
-    }
-
-    /// The image.
-    pub fn image(&self) -> &Image<A>
-        ensures { result.now ≡ self.now.image }
-    {
-        &self.image
     }
 }

@@ -6,6 +6,7 @@ ghost use Rattle.controller_core.specs.Doorbells.{with_tail, with_head, tail_run
 
 use crate::controller::Controller;
 use crate::queue::ControllerQueue;
+use block_image::Blocks;
 use std::alloc::Allocator;
 
 /// Takes the tail of a queue, if there is such a queue.
@@ -28,7 +29,7 @@ fn hear_head_of<A: Allocator>(queues: &mut Vec<ControllerQueue, A>, q: u16, valu
     }
 }
 
-impl<A: Allocator> Controller<A> {
+impl<A: Allocator, I: Blocks> Controller<A, I> {
     /// A value is written to the tail doorbell of submission queue `q` (NVM Express over PCIe Transport Specification 1.0, "Submission
     /// Queue y Tail Doorbell"). One that is no slot of the ring is ignored, as is one of a queue number above those that the
     /// controller has (own).

@@ -1,12 +1,14 @@
 //! The controller fetches an entry.
 
-ghost use Rattle.std.specs.Prelude.{◌≡◌, ◌≢◌, ◌<◌, ◌+◌, ◌≤◌, ◌==◌, ◌++◌, ◌∷◌, [], None, Some, true, false, IfOk, IfSome, OnOk, OnErr, find, is_some, length, slice_get, vec_len, vec_capacity};
+ghost use Rattle.std.specs.Prelude.{◌≡◌, ◌≢◌, ◌<◌, ◌+◌, ◌≤◌, ◌==◌, ◌||◌, ◌++◌, ◌∷◌, [], None, Some, true, false, IfOk, IfSome, IfErr, OnOk, OnErr, find, is_some, length, slice_get, vec_len, vec_capacity};
 ghost use Rattle.std.specs.Result.{result_err};
+ghost use Rattle.block_image.specs.Blocks.{block_count};
 ghost use Rattle.entry_codec.specs.declared.status.TheConstants.Status.{COMMAND_ID_CONFLICT};
 ghost use Rattle.queue_pair.specs.Memory.{entry_at, submission_page};
 ghost use Rattle.controller_core.specs.Posting.{post_refusal_at, post_refusal, completion_by, memory_posted, page_posted, with_posted};
-ghost use Rattle.controller_core.specs.Contents.{change, is_command, IsController};
-ghost use Rattle.controller_core.specs.Fetching.{live_side, side_refusal, look_refusal, LooksAt, Begins, PostsConflict, Fetches};
+ghost use Rattle.controller_core.specs.Contents.{change, is_command, FitsWork, IsController};
+ghost use Rattle.controller_core.specs.Lending.{IsRefusedBehindLook};
+ghost use Rattle.controller_core.specs.Fetching.{live_side, side_refusal, look_refusal, entry_refusal, is_known, begun, LooksAt, PostsConflict, Takes, Fetches};
 ghost use Rattle.controller_core.specs.Managing.{with_taken, command_of, managed};
 ghost use Rattle.controller_core.specs.declared.command.Work.TheVariants.{Io};
 
@@ -17,6 +19,7 @@ use crate::post::post_completion;
 use crate::queue::ControllerQueue;
 use crate::refusal::Refusal;
 use admin_commands::{SqState, decide};
+use block_image::Blocks;
 use entry_codec::{Status, SubEntry};
 use io_commands::{Job, begin_job};
 use page_memory::Dma;
@@ -119,12 +122,13 @@ fn fetched<A: Allocator>(q: u16, work: Work<Job<A>>) -> FetchedCommand<Job<A>>
     }
 }
 
-impl<A: Allocator + Copy> Controller<A> {
+impl<A: Allocator + Copy, I: Blocks> Controller<A, I> {
     /// The entry at the head of a queue, or the first cause against it.
     pub(crate) fn look<D: Dma>(&self, q: u16, dma: &mut D) -> Result<SubEntry, Refusal>
         requires room { length (D.reached dma.old) ≤ 2 }
         ensures refusal { result_err result ≡ look_refusal self.now (D.memory dma.old) q }
         ensures looks { IfOk result (λ e. LooksAt self.now (D.memory dma.old) (D.reached dma.old) q e (D.reached dma.new)) }
+        ensures sound { IsController self.now }
         ensures untouched { OnErr result (D.reached dma.new ≡ D.reached dma.old) }
         ensures memory { D.memory dma.new ≡ D.memory dma.old }
         ensures unlisted { D.unlisted dma.new ≡ D.unlisted dma.old }
@@ -136,17 +140,16 @@ impl<A: Allocator + Copy> Controller<A> {
         head_entry(&pair, dma)
     }
 
-    /// Takes the entry at the head of an I/O queue, as a command behind the others.
-    fn begin_entry(&mut self, q: u16, entry: &SubEntry) -> Result<(), AllocError>
-        requires io { (q == 0) ≡ false }
+    /// Takes the entry at the head of an I/O queue, and keeps the job that it begins as a command behind the others.
+    pub(crate) fn keep_job(&mut self, q: u16, job: Job<A>) -> Result<(), AllocError>
         requires there { q < length self.old.queues }
         requires rung { IfSome (slice_get self.old.queues q) (λ queue. queue.controller.ring.head ≢ queue.controller.ring.bell) }
-        requires unknown { is_some (find (is_command q entry.now.cid) self.old.commands) ≡ false }
-        ensures begins { OnOk result (Begins self.old q entry.now self.new) }
+        requires unknown { is_some (find (is_command q job.entry.cid) self.old.commands) ≡ false }
+        requires fits { FitsWork (block_count self.old.image) q 0 (Io job) }
+        ensures begun { OnOk result (self.new ≡ begun q job self.old) }
         ensures sound { IsController self.new }
         ensures refused { OnErr result (self.new ≡ self.old) }
     {
-        let job = begin_job(self.alloc, entry, &self.image)?;
         self.commands.put(fetched(q, Work::Io(job)))?;
         take_entry(&mut self.queues, q);
         Ok(())
@@ -174,6 +177,45 @@ impl<A: Allocator + Copy> Controller<A> {
         Ok(())
     }
 
+    /// Takes an entry that was looked at, where it begins no job: one whose identifier is known is completed at once, with Command Identifier
+    /// Conflict, and one of queue 0 is decided. Whether it was one of these; if not, nothing changed.
+    ///
+    /// # Errors
+    ///
+    /// As [`Controller::fetch`], behind the look. Then nothing changed.
+    pub(crate) fn take_at_once<D: Dma>(
+        &mut self,
+        q: u16,
+        entry: SubEntry,
+        dma: &mut D,
+    ) -> Result<bool, Refusal>
+        requires there { q < length self.old.queues }
+        requires rung { IfSome (slice_get self.old.queues q) (λ queue. queue.controller.ring.head ≢ queue.controller.ring.bell) }
+        requires room { length (D.reached dma.old) ≤ 2 }
+        ensures taken { IfOk result (λ taken. taken ≡ (is_known self.old q entry || (q == 0))) }
+        ensures room { OnOk result (entry_refusal self.old (D.memory dma.old) q entry ≡ None) }
+        ensures takes { IfOk result (λ taken. taken ≡ true → Takes (is_known self.old q entry) self.old (D.page_count dma.old) q entry (D.memory dma.old) (D.reached dma.old) self.new (D.memory dma.new) (D.reached dma.new)) }
+        ensures leaves { IfOk result (λ taken. taken ≡ false → (self.new ≡ self.old) × (D.memory dma.new ≡ D.memory dma.old) × (D.reached dma.new ≡ D.reached dma.old)) }
+        ensures refused { IfErr result (λ why. IsRefusedBehindLook self.old (D.memory dma.old) q entry why) }
+        ensures at_once { OnErr result ((is_known self.old q entry || (q == 0)) ≡ true) }
+        ensures unchanged { OnErr result ((self.new ≡ self.old) × (D.memory dma.new ≡ D.memory dma.old) × (D.reached dma.new ≡ D.reached dma.old)) }
+        ensures sound { IsController self.new }
+        ensures unlisted { D.unlisted dma.new ≡ D.unlisted dma.old }
+        ensures pool { D.page_count dma.new ≡ D.page_count dma.old }
+    {
+        if self.commands.get(q, entry.cid).is_some() {
+            post_conflict_at(&mut self.queues, q, entry.cid, dma)?;
+            return Ok(true);
+        }
+        if q == 0 {
+            self.manage_entry(dma.pool_pages(), entry)?;
+            return Ok(true);
+        }
+        Ok(false)
+    }
+}
+
+impl<A: Allocator + Copy> Controller<A> {
     /// Fetches the entry at the head of a submission queue: the identifier of its command. An entry of an I/O queue begins a job: where a
     /// field check fails, that is its verdict, and a Read takes its blocks from the image as it is now. An entry of queue 0 is decided
     /// here: an Abort stops its command, the deletion of a submission queue stops that queue and its commands, the deletion of a completion
@@ -196,15 +238,11 @@ impl<A: Allocator + Copy> Controller<A> {
     {
         let entry = self.look(q, dma)?;
         let cid = entry.cid;
-        if self.commands.get(q, cid).is_some() {
-            post_conflict_at(&mut self.queues, q, cid, dma)?;
+        if self.take_at_once(q, entry, dma)? {
             return Ok(cid);
         }
-        if q == 0 {
-            self.manage_entry(dma.pool_pages(), entry)?;
-            return Ok(cid);
-        }
-        self.begin_entry(q, &entry)?;
+        let job = begin_job(self.alloc, &entry, &self.image)?;
+        self.keep_job(q, job)?;
         Ok(cid)
     }
 }

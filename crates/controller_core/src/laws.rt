@@ -1,6 +1,7 @@
 //! Laws of the definitions that the contracts cite. Each function does nothing, and its clause is the law.
 
 ghost use Rattle.controller_core.specs.Laws.{WalksOneWay, CompletesOneWay, FetchesOneWay, RefusesOneWay, ServedUnlessMemory};
+ghost use Rattle.controller_core.specs.Lending.{NoneLacksAtHand, RefusesAsImage};
 ghost use Rattle.controller_core.specs.Resetting.{ResetIsQuiet, QuietUntilTail, IdleUntilCreated, ResetKeepsImage, ResetOnce};
 
 /// The contract of a walk leaves nothing open of the answer, the memory and the touched pages, nor of the controller but how a walk keeps
@@ -22,6 +23,13 @@ pub fn fetches_go_one_way()
     ensures served { FetchesOneWay }
     ensures refused { RefusesOneWay }
     ensures unless_memory { ServedUnlessMemory }
+{}
+
+/// Calls over blocks that are lent lack none where all are at hand, and are refused then for what they are refused for over an image.
+#[tactic(auto, using(crate::proofs::Ended::none_lacks_at_hand, crate::proofs::Ended::refuses_as_image))]
+pub fn lent_blocks_are_an_image()
+    ensures fetches { NoneLacksAtHand }
+    ensures completes { RefusesAsImage }
 {}
 
 /// Behind a reset, and behind one head that is rung then, nothing can be fetched, walked or completed, whatever the controller was; and behind

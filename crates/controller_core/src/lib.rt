@@ -17,6 +17,7 @@ mod controller;
 mod doorbell;
 mod fetch;
 pub mod laws;
+mod lending;
 mod look;
 mod manage;
 mod post;
@@ -29,6 +30,7 @@ pub mod worked;
 
 pub use command::{FetchedCommand, Work};
 pub use controller::{Controller, OpenRefused};
+pub use lending::LentRefusal;
 pub use look::ControllerStep;
 pub use queue::{ControllerQueue, QueuePages};
 pub use refusal::Refusal;

@@ -9,6 +9,7 @@ ghost use Rattle.page_memory.specs.Memory.{counted, TouchesMore};
 use crate::controller::Controller;
 use crate::queue::ControllerQueue;
 use crate::refusal::Refusal;
+use block_image::Blocks;
 use page_memory::{Dma, TouchRecord};
 use queue_pair::DevicePair;
 use std::alloc::Allocator;
@@ -71,7 +72,7 @@ fn post_cause_at<D: Dma>(queues: &[ControllerQueue], q: u16, dma: &mut D) -> Opt
     }
 }
 
-impl<A: Allocator + Copy> Controller<A> {
+impl<A: Allocator + Copy, I: Blocks> Controller<A, I> {
     /// Whether an entry of a queue can be fetched.
     fn can_fetch<D: TouchRecord>(&self, q: u16, dma: &mut D) -> bool
         ensures answer { result ≡ is_none (fetch_refusal self.now (D.memory dma.old) q) }

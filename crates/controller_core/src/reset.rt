@@ -6,6 +6,7 @@ ghost use Rattle.controller_core.specs.Resetting.{queue_reset, queues_reset, res
 use crate::controller::Controller;
 use crate::queue::ControllerQueue;
 use admin_commands::SqState;
+use block_image::Blocks;
 use page_memory::Half;
 use std::alloc::Allocator;
 
@@ -35,7 +36,7 @@ fn reset_queues(queues: &mut [ControllerQueue])
     }
 }
 
-impl<A: Allocator> Controller<A> {
+impl<A: Allocator, I: Blocks> Controller<A, I> {
     /// A Controller Level Reset (NVM Express Base Specification 2.0, "Controller Level Reset", section 3.7.2). Each command ends at
     /// once, without a completion, and changes nothing of the image. The I/O queues are gone until they are created, and the admin
     /// queue stays. All rings are as they were opened, over the halves that they have now.

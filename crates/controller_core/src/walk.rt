@@ -9,6 +9,7 @@ use crate::command::{FetchedCommand, Work};
 use crate::commands::Commands;
 use crate::controller::Controller;
 use crate::refusal::Refusal;
+use block_image::Blocks;
 use controller_walk::WalkState;
 use io_commands::Job;
 use page_memory::Dma;
@@ -62,7 +63,7 @@ impl<A: Allocator> Commands<A> {
     }
 }
 
-impl<A: Allocator> Controller<A> {
+impl<A: Allocator, I: Blocks> Controller<A, I> {
     /// Does the next unit of the list of a fetched command: takes a descriptor, or moves the bytes of one page. With the last unit it
     /// answers `End` or a fault, which is then the command's verdict (NVM Express Base Specification 2.0, "Scatter Gather List
     /// (SGL)", section 4.1.2). The list of the touched pages has two pages at most before, and gets those of the unit.

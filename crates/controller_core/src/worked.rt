@@ -1,20 +1,22 @@
 //! Worked runs of the definitions. Each function does nothing, and its clauses are the run.
 #![tactic(auto, unfolding(page_memory::specs::Memory::bytes_at, sgl_descriptor::specs::Spelling::descriptor_of, entry_codec::specs::Submission::submission_of, entry_codec::specs::Completion::completion_bytes, controller_walk::specs::Units::moving, controller_walk::specs::Units::from_place))]
 
-ghost use Rattle.std.specs.Prelude.{◌≡◌, ◌∷◌, [], None, Some, length, replicate, slice_get};
+ghost use Rattle.std.specs.Prelude.{◌≡◌, ◌∷◌, [], None, Some, false, length, replicate, slice_get, true};
 ghost use Rattle.admin_commands.specs.Entries.{admin_entry};
 ghost use Rattle.admin_commands.specs.declared.AdminKind.TheVariants.{Abort, CreateCq};
 ghost use Rattle.controller_walk.specs.declared.walk.WalkState.TheVariants.{More, End};
-ghost use Rattle.entry_codec.specs.Worked.{first_completion_bytes};
+ghost use Rattle.entry_codec.specs.Worked.{first_completion_bytes, first_read};
 ghost use Rattle.entry_codec.specs.declared.status.TheConstants.Status.{SUCCESS, INVALID_OPCODE, INVALID_FIELD, DATA_TRANSFER_ERROR, INVALID_SGL_SEGMENT, INVALID_SGL_COUNT, DATA_SGL_LENGTH_INVALID, SGL_TYPE_INVALID};
 ghost use Rattle.page_memory.specs.Memory.{bytes_at};
 ghost use Rattle.controller_core.specs.Completing.{CompletesTo, complete_refusal};
 ghost use Rattle.controller_core.specs.Doorbells.{tail_rung, head_rung};
 ghost use Rattle.controller_core.specs.Fetching.{FetchesTo, fetch_refusal, look_refusal};
+ghost use Rattle.controller_core.specs.Lending.{entry_lacked, fetch_lacked, lent_refusal};
 ghost use Rattle.controller_core.specs.Managing.{command_of, managed};
 ghost use Rattle.controller_core.specs.Walking.{WalksTo, walk_refusal};
 ghost use Rattle.controller_core.specs.Worked.{fresh, rung, memory_with_entry, with_read_begun, with_read_halfway, with_read_walked, with_read_completed, memory_with_data, memory_with_completion, wrong_opcode, status_bytes, create_cq, create_sq, memory_with_creations, without_queue, with_completion_made, with_queue_made, made_queue, with_abort, with_reset, with_reset_rung, block};
 ghost use Rattle.controller_core.specs.declared.command.Work.TheVariants.{Admin};
+ghost use Rattle.controller_core.specs.declared.lending.LentRefusal.TheVariants.{NotLent, Refused};
 ghost use Rattle.controller_core.specs.declared.refusal.Refusal.TheVariants as refusal;
 
 /// A Read of one block, from the entry in memory to the completion in memory, with the pages that each call touches behind those that were touched before.
@@ -37,6 +39,17 @@ pub fn worked_refusals()
     ensures walked { walk_refusal with_read_walked 1 0 ≡ Some refusal.Nothing }
     ensures ready { complete_refusal with_read_walked memory_with_data 1 0 ≡ None }
     ensures forgotten { complete_refusal with_read_completed memory_with_completion 1 0 ≡ Some refusal.NoJob }
+{}
+
+/// Which blocks are wanted along that Read, where none is lent: its own at the fetch, and none at the end.
+pub fn worked_wants()
+    ensures read { entry_lacked (λ slba n. false) rung 1 first_read ≡ Some (NotLent 0 1) }
+    ensures lent { entry_lacked (λ slba n. true) rung 1 first_read ≡ None }
+    ensures known { entry_lacked (λ slba n. false) with_read_begun 1 first_read ≡ None }
+    ensures admin { entry_lacked (λ slba n. false) rung 0 first_read ≡ None }
+    ensures not_rung { fetch_lacked (λ slba n. false) fresh memory_with_entry 1 ≡ None }
+    ensures ends { lent_refusal (λ slba n. false) with_read_walked memory_with_data 1 0 ≡ None }
+    ensures walking { lent_refusal (λ slba n. false) with_read_halfway memory_with_entry 1 0 ≡ Some (Refused refusal.Walking) }
 {}
 
 /// Doorbells out of their range: a tail that is no slot, a head past the tail, a queue that is not there.

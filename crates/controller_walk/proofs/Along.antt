@@ -1,4 +1,4 @@
--- The moves of a list follow the targets of its parts, and a list that ends well moves each byte that has a place.
+-- The moves of a list follow the targets of its parts, and a list that ends well moves each byte that has an address.
 use Rattle.std.proofs.Common.{arith, ◌≡◌, ◌<◌, ◌≤◌, ◌+◌, ◌-◌, ◌++◌, ◌∷◌, [], ℕ, zero, suc, Bool, true, false, List, Option, Some, None, refl, sym, ap, subst, ◌∙◌, cond, is_some, length, map, min, nat_eq, ◌≢◌, inl, inr, replicate}
 use Rattle.std.proofs.lemmas.{Bool.{cases_lt, Decides.nat_tests}, Grind.common_steps, List.FromFn.{length-map-range_with_len, get_or-map-range_with_len}}
 use Rattle.std.{proofs.lemmas.Option.{slice_get-get_or, slice_get_within}, specs.{List.{slice_get, range_with_len}, Option.option_and_then}}
@@ -15,7 +15,7 @@ use Rattle.controller_walk.specs.declared.{cursor.Cursor.Cursor, walk.WalkState.
 
 -- The moves of a list follow the targets of its parts.
 
--- the target of a byte of a block behind others
+-- the target of a byte of a block after others
 range_target : (addr len i : ℕ) → i < len → slice_get (map (λ place. Place place) (range_with_len addr len)) i ≡ Some (Place (addr + i))
 range_target addr len i lt =
     slice_get-get_or (map (λ place. Place place) (range_with_len addr len)) i (Place 0) (rw (length-map-range_with_len (λ place. Place place) addr len) lt)
@@ -63,12 +63,12 @@ along_moving m dir need parts (suc n) place len offset rest within there h =
 pub still_wanted : (dir : Direction) (parts : List Part) (wanted need : ℕ) → counted_in dir parts + wanted ≡ need → wanted_behind dir need parts ≡ wanted
 still_wanted dir parts wanted need sum = omega (arith, sum)
 
--- the front of a bucket counts what of the bucket is wanted
+-- the prefix of a bucket counts what is wanted of the bucket
 pub bucket_front : (dir : Direction) (len wanted : ℕ) → counted_in dir (Bucket (min len wanted) ∷ []) ≡ min (counted dir (BitBucket len)) wanted
 bucket_front Destination len wanted = omega arith
 bucket_front Source len wanted = omega arith
 
--- behind the wanted front of one more part, parts and wanted bytes still make up the need
+-- after the wanted prefix of one more part, parts and wanted bytes still make up the need
 pub count_one : (dir : Direction) (parts : List Part) (part : Part) (n wanted need : ℕ) → counted_in dir (part ∷ []) ≡ min n wanted → counted_in dir parts + wanted ≡ need →
     counted_in dir (parts ++ part ∷ []) + (wanted - n) ≡ need
 count_one dir parts part n wanted need one sum = omega (arith, counted_in-append dir parts (part ∷ []))
@@ -137,9 +137,9 @@ list_moves_along m sgl1 dir need =
     none_yet : (n : ℕ) → 0 + n ≡ n
     none_yet n = omega arith
 
--- A list that ends well moves each byte that has a place.
+-- A list that ends well moves each byte that has an address.
 
--- one more descriptor's part comes behind the others, and so do those of a course
+-- one more descriptor's part comes after the others, and so do those of a course
 none_more : (parts : List Part) → parts ≡ parts ++ []
 none_more parts = grind (arith, common_steps)
 
@@ -178,7 +178,7 @@ no_place Destination len i p h = get_discarded len i p (rw (← one len) h)
     one : (len : ℕ) → targets Destination (Bucket len ∷ []) ≡ replicate len Discarded
     one len = grind (arith, common_steps)
 
--- no byte of a bucket has a place
+-- no byte of a bucket has an address
 bucket_place : (m : Memory) (dir : Direction) (need : ℕ) (parts : List Part) (len : ℕ) (c : Course) (i p : ℕ) → counted_in dir parts ≤ i →
     slice_get (targets dir (parts_taken m dir need (parts ++ Bucket len ∷ []) c)) i ≡ Some (Place p) → counted_in dir (parts ++ Bucket len ∷ []) ≤ i
 bucket_place m dir need parts len c i p from there =

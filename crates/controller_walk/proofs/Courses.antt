@@ -11,7 +11,7 @@ use Rattle.controller_walk.specs.{Walks.{answer, course_in, Moved}, declared.{ca
 use Rattle.controller_walk.specs.declared.progress.{Progress.Progress, State.{State, TheVariants.{First, Next, Data, Over}}}
 use Rattle.controller_walk.specs.declared.walk.WalkState.TheVariants.{More, Fault, End}
 
--- What is left of a walk, at each place where its definition is stuck.
+-- What is left of a walk, at each point where its definition is stuck.
 
 more_found : (m : Memory) (dir : Direction) (need : ℕ) (c : Cursor) (wanted : ℕ) (later : Option Cursor → ℕ → Course) (found : Option (List ℕ)) →
     answer (read_at m dir need c wanted later found) ≡ More
@@ -28,7 +28,7 @@ more_at (suc k) m dir need c wanted = more_found m dir need c wanted (behind (fr
 pub still_wants : (wanted : ℕ) → wanted ≢ 0 → nat_eq wanted 0 ≡ false
 still_wants wanted some = grind (arith, nat_tests)
 
--- behind the wanted front of a block, just as many bytes are wanted as behind the whole
+-- after the wanted prefix of a block, just as many bytes are wanted as after the whole
 pub behind_front : (len wanted : ℕ) → wanted - min len wanted ≡ wanted - len
 behind_front len wanted = omega arith
 
@@ -98,11 +98,11 @@ from_reads (suc k) m dir need c wanted place rest e = read_there m dir need c wa
 moving_reads_none : (m : Memory) (n place len offset : ℕ) (rest : Course) (from : ℕ) (left : Course) → moving m (suc n) place len offset rest ≡ Does (Reads from) left → ⊥
 unfolding moving
 moving_reads_none m n place len offset rest from left e =
-    go (is_some (bytes_at m place (first_part place len))) (moving m n (place + first_part place len) (len - first_part place len) (offset + first_part place len) rest) e
+    by_presence (is_some (bytes_at m place (first_part place len))) (moving m n (place + first_part place len) (len - first_part place len) (offset + first_part place len) rest) e
   where
-    go : (b : Bool) (c : Course) → cond b (Does (Moves place (first_part place len) offset) c) (Does Stays (Closes (Fault DATA_TRANSFER_ERROR))) ≡ Does (Reads from) left → ⊥
-    go true c e = cc
-    go false c e = cc
+    by_presence : (b : Bool) (c : Course) → cond b (Does (Moves place (first_part place len) offset) c) (Does Stays (Closes (Fault DATA_TRANSFER_ERROR))) ≡ Does (Reads from) left → ⊥
+    by_presence true c e = cc
+    by_presence false c e = cc
 
 -- a walk at a descriptor reads that one, if it reads one
 pub next_reads : (m : Memory) (w : Progress) (s : State) (c : Cursor) (place : ℕ) (rest : Course) → s ≡ Next c → course_in m w s ≡ Does (Reads place) rest → c.place ≡ place
@@ -202,11 +202,11 @@ length_mid offset n bytes within = grind (arith, common_steps)
 
 -- bytes that are not missing
 pub found_of : (m : Memory) (place k n : ℕ) → k ≡ n → bytes_at m place k ≢ None → (found : List ℕ) × (bytes_at m place n ≡ Some found)
-found_of m place k n same there = go (bytes_at m place n) refl
+found_of m place k n same there = by_bytes (bytes_at m place n) refl
   where
-    go : (o : Option (List ℕ)) → bytes_at m place n ≡ o → (found : List ℕ) × (bytes_at m place n ≡ Some found)
-    go None e = absurd (there (rw same e))
-    go (Some found) e = (found, e)
+    by_bytes : (o : Option (List ℕ)) → bytes_at m place n ≡ o → (found : List ℕ) × (bytes_at m place n ≡ Some found)
+    by_bytes None e = absurd (there (rw same e))
+    by_bytes (Some found) e = (found, e)
 
 pub wrote_moved : (place offset n k : ℕ) (m m' : Memory) (bytes : List ℕ) → k ≡ n → bytes_at m place k ≢ None →
     m' ≡ written m place (slice_range bytes offset (offset + n)) → Moved Destination place n offset m m' bytes bytes

@@ -18,7 +18,7 @@ agree_both at m m' m'' a b = record { there = λ q. a.there q ∙ b.there q; sam
 agree_equal : (at : ℕ → Bool) (m m' : Memory) → m' ≡ m → Agree at m m'
 agree_equal at m m' same = record { there = λ q. ap (λ (x : Memory). is_some (x q)) (sym same); same = λ q h. ap (λ (x : Memory). x q) (sym same) }
 
--- each of the bytes from a place on is there
+-- each of the bytes starting at an address is there
 byte_there : (m : Memory) (place n : ℕ) (found : List ℕ) → bytes_at m place n ≡ Some found → (k : ℕ) → k < n → is_some (m (place + k)) ≡ true
 unfolding bytes_at
 byte_there m place zero found e k lt = absurd (omega arith)
@@ -43,7 +43,7 @@ byte_there m place (suc n) found e (suc k) lt =
 written_in : (m : Memory) (place q : ℕ) (bytes : List ℕ) → place ≤ q → q < place + length bytes → is_some (written m place bytes q) ≡ true
 written_in m place q bytes low high = ap is_some (byte_written m place q bytes low high)
 
--- a write to places that are there, outside of those that are kept
+-- a write to addresses that are there, outside of those that are kept
 agree_written : (at : ℕ → Bool) (m : Memory) (place n : ℕ) (found bytes : List ℕ) → bytes_at m place n ≡ Some found → length bytes ≤ n →
     ((k : ℕ) → k < n → at (place + k) ≡ false) → Agree at m (written m place bytes)
 agree_written at m place n found bytes there few out = record { there = λ q. stays q; same = λ q h. keeps q h }

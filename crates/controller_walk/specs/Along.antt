@@ -7,15 +7,15 @@ use Rattle.sgl_descriptor.specs.declared.Part.TheVariants.{Data, Bucket}
 use Rattle.controller_walk.specs.Units.{Stays, Reads, Moves, Course, Closes, Does, verdict, course_of_list, verdict_of_list}
 use Rattle.controller_walk.specs.declared.walk.WalkState.TheVariants.{End}
 
--- the descriptor at a place, if 16 bytes there spell one
+-- the descriptor at an address, if 16 bytes there spell one
 abbrev pub descriptor_at : Memory → ℕ → Option Descriptor
 descriptor_at m place = option_and_then descriptor_of (bytes_at m place 16)
 
--- how many bytes are still wanted behind parts
+-- how many bytes are still wanted after parts
 abbrev pub wanted_behind : Direction → ℕ → List Part → ℕ
 wanted_behind dir need parts = need - counted_in dir parts
 
--- The parts taken so far, with that of one more descriptor, where it is a part: its front, as far as bytes are wanted.
+-- The parts taken so far, with that of one more descriptor, where it is a part: its prefix, as far as bytes are wanted.
 abbrev pub taken : Direction → ℕ → List Part → Option Descriptor → List Part
 taken dir need parts None = parts
 taken dir need parts (Some (DataBlock addr len)) = parts ++ Data addr (min len (wanted_behind dir need parts)) ∷ []
@@ -54,7 +54,7 @@ MovesByte i (Does Stays rest) = MovesByte i rest
 MovesByte i (Does (Reads place) rest) = MovesByte i rest
 MovesByte i (Does (Moves place n offset) rest) = ((offset ≤ i) × (i < offset + n)) ⊎ MovesByte i rest
 
--- Where a course ends well, it moves each byte whose target is a place, behind those of the parts taken before it.
+-- Where a course ends well, it moves each byte whose target is an address, after those of the parts taken before it.
 abbrev pub MovesAll : Memory → Direction → ℕ → List Part → Course → Type 0
 MovesAll m dir need parts c =
     verdict c ≡ End → (i p : ℕ) → counted_in dir parts ≤ i → slice_get (targets dir (parts_taken m dir need parts c)) i ≡ Some (Place p) → MovesByte i c

@@ -17,7 +17,7 @@ abbrev pub ends_short : Option Cursor → ℕ → Bool
 ends_short None wanted = not (nat_eq wanted 0)
 ends_short (Some c) wanted = false
 
--- A descriptor without fault that is done as soon as it is taken, ends the list too early.
+-- A descriptor without fault that is done as soon as it is taken ends the list too early.
 abbrev pub is_short : Direction → Cursor → ℕ → Descriptor → Bool
 is_short dir c wanted (DataBlock addr len) = nat_eq len 0 && ends_short (next c) wanted
 is_short dir c wanted (BitBucket len) = ends_short (next c) (wanted - counted dir (BitBucket len))
@@ -40,7 +40,7 @@ abbrev pub cause_read : Direction → Cursor → ℕ → Option (List ℕ) → O
 cause_read dir c wanted None = Some UnreadableDescriptor
 cause_read dir c wanted (Some bytes) = cause_taken dir c wanted (descriptor_of bytes)
 
--- what is wrong at a descriptor's place, where the list may have so many more descriptors
+-- what is wrong at a descriptor's address, where the list may have this many more descriptors
 abbrev pub cause_next : Memory → Direction → ℕ → Cursor → ℕ → Option FaultCause
 cause_next m dir allowed c wanted = if nat_eq allowed 0 then Some TooManyDescriptors else cause_read dir c wanted (bytes_at m c.place 16)
 
@@ -52,7 +52,7 @@ cause_moved m block after wanted =
     ∷ (nat_eq (first_part block.place block.len) block.len && ends_short after wanted, ListTooShort)
     ∷ [])
 
--- the descriptor that a walk took last, which stands there
+-- the descriptor that a walk took last, which is there
 abbrev pub taken_last : Walk → Option ℕ → DescriptorAt
 taken_last w place = record { number = 4096 - w.allowed; place = place }
 
@@ -100,7 +100,7 @@ answered_status More = None
 answered_status End = None
 answered_status (Fault status) = Some status
 
--- How many bytes the descriptor counts that a step takes; none, where it has a fault. More than are wanted are not counted.
+-- How many bytes the descriptor that a step takes counts; none where it has a fault. More than are wanted are not counted.
 abbrev pub counted_unless : Option FaultCause → ℕ → ℕ
 counted_unless (Some cause) n = 0
 counted_unless None n = n

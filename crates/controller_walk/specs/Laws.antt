@@ -1,4 +1,4 @@
--- What holds of every list: its course hangs on the descriptors that it reads and on which bytes are missing, so
+-- What holds of every list: its course depends on the descriptors that it reads and on which bytes are missing, so
 -- each step of a walk does the next unit of one list while nobody changes those descriptors or which bytes
 -- are missing.
 use Rattle.std.specs.Prelude.{◌≡◌, ◌<◌, ◌+◌, ℕ, zero, suc, Bool, true, false, is_some, List, [], ◌∷◌, Option, Some, None, length, slice_get, if◌then◌else◌, nat_lt}
@@ -8,19 +8,19 @@ use Rattle.controller_walk.specs.Units.{Act, Stays, Reads, Moves, Course, Closes
 use Rattle.controller_walk.specs.{Walks.{course, Acts, DoesFirst, LeavesRest, IfMore, direction_of}, declared.walk.{Walk.Walk, WalkState.WalkState}}
 use Rattle.controller_walk.specs.declared.walk.WalkState.TheVariants.{More}
 
--- The same bytes are missing, and those at some places, of which `at` tells, are the same.
+-- The same bytes are missing, and those at some addresses, which `at` tells, are the same.
 pub record Agree (at : ℕ → Bool) (m m' : Memory) : Type 0 where
   pub there : (q : ℕ) → is_some (m q) ≡ is_some (m' q)
   pub same : (q : ℕ) → at q ≡ true → m q ≡ m' q
 
--- the descriptors that a course reads lie in those places
+-- the descriptors that a course reads lie at those addresses
 abbrev pub ReadsWithin : (ℕ → Bool) → Course → Type 0
 ReadsWithin at (Closes v) = Unit {0}
 ReadsWithin at (Does Stays rest) = ReadsWithin at rest
 ReadsWithin at (Does (Reads place) rest) = ((k : ℕ) → k < 16 → at (place + k) ≡ true) × ReadsWithin at rest
 ReadsWithin at (Does (Moves place n offset) rest) = ReadsWithin at rest
 
--- the moves of a course stay out of those places
+-- the moves of a course avoid those addresses
 abbrev pub MovesOutside : (ℕ → Bool) → Course → Type 0
 MovesOutside at (Closes v) = Unit {0}
 MovesOutside at (Does Stays rest) = MovesOutside at rest
@@ -31,7 +31,7 @@ abbrev pub OverwritesNothing : (ℕ → Bool) → Direction → Course → Type 
 OverwritesNothing at Destination c = MovesOutside at c
 OverwritesNothing at Source c = Unit {0}
 
--- The list is read within some places, and what it moves to a destination stays out of them.
+-- The list is read within some addresses, and what it moves to a destination avoids them.
 pub record IsApart (at : ℕ → Bool) (dir : Direction) (c : Course) : Type 0 where
   pub reads : ReadsWithin at c
   pub moves : OverwritesNothing at dir c
@@ -68,7 +68,7 @@ StandsAtFirst at m sgl1 dir need w =
     → StandsAfter at m 0 (course_of_list m sgl1 dir need) w
 
 -- What a step does at a walk that stands after t units: the t-th unit, counted from 0, with its answer. The memory still
--- agrees with that of the list, and after More the walk stands behind that unit.
+-- agrees with that of the list, and after More the walk stands after that unit.
 pub record DoesUnitAt (at : ℕ → Bool) (m : Memory) (c : Course) (t : ℕ) (w' : Walk) (answer : WalkState) (dir : Direction)
     (now now' : Memory) (bytes bytes' reached reached' : List ℕ) : Type 0 where
   pub unit : DoesUnit (slice_get (units c) t) dir now now' bytes bytes' reached reached'

@@ -12,7 +12,7 @@ abbrev pub IsAfter : Option Cursor → Type 0
 IsAfter None = Unit {0}
 IsAfter (Some c) = IsCursor c
 
--- A block that is being moved isn't empty and ends at 2 ^ 64 at most; its bytes and those wanted behind it end those that are needed.
+-- A block that is being moved isn't empty and ends at 2 ^ 64 at most; its bytes and those wanted after it end those that are needed.
 abbrev pub IsBlock : ℕ → ℕ → Block → Type 0
 IsBlock need wanted block = (0 < block.len) × (block.place + block.len ≤ 2 ^ 64) × (block.offset + (block.len + wanted) ≡ need)
 

@@ -1,4 +1,4 @@
--- What of a memory a course hangs on: the descriptors that it reads, and that no byte is missing where it moves. Of all other
+-- What of a memory a course depends on: the descriptors that it reads, and that no byte is missing where it moves. Of all other
 -- bytes, and of whether they are missing, it knows nothing, unless it ends for want of a byte.
 use Rattle.std.specs.Prelude.{◌≡◌, ◌≢◌, ℕ, List, true, is_some}
 use Rattle.entry_codec.specs.declared.status.TheConstants.Status.{DATA_TRANSFER_ERROR}

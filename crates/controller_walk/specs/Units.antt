@@ -11,8 +11,8 @@ use Rattle.controller_walk.specs.declared.cause.FaultCause.TheVariants.{TooManyD
 use Rattle.controller_walk.specs.declared.{cursor.{Cursor.Cursor, Named.{Named, TheVariants.{Unnamed, BySegment, ByLastSegment}}}, walk.WalkState.WalkState}
 use Rattle.controller_walk.specs.declared.walk.WalkState.TheVariants.{End, Fault}
 
--- A unit, which one step does: it reaches no memory, or reads the descriptor at a place, or moves so many bytes
--- between a place and the command's bytes from an offset on.
+-- A unit, which one step does: it reaches no memory, or reads the descriptor at an address, or moves this many bytes
+-- between an address and the command's bytes starting at an offset.
 pub data Act : Type 0 where
   Stays : Act
   Reads : ℕ → Act
@@ -35,7 +35,7 @@ pub data Course : Type 0 where
 --   its type is above 3, or its subtype is not 0                             SGL Descriptor Type Invalid         `after_read`
 --   the rows of `first_cause`, in their order
 --   a byte of its data is unreadable                                         Data Transfer Error                 `moving`
--- The list is over as soon as all bytes that the command moves are counted: what stands behind is no fault. At the end of
+-- The list is over as soon as all bytes that the command moves are counted: what comes after is no fault. At the end of
 -- a list with bytes still wanted: Data SGL Length Invalid (`behind`).
 
 -- the status of each fault
@@ -55,7 +55,7 @@ cause_status ListTooShort = DATA_SGL_LENGTH_INVALID
 abbrev pub Row : Type 0
 Row = Bool × FaultCause
 
--- what stands in the first row that applies
+-- what is in the first row that applies
 abbrev pub first_passing : {A : Type 0} → List (Bool × A) → Option A
 first_passing [] = None
 first_passing (row ∷ rows) = if row.0 then Some row.1 else first_passing rows
@@ -71,7 +71,7 @@ named_on Unnamed = false
 named_on BySegment = true
 named_on ByLastSegment = false
 
--- the address of a descriptor, of which a Bit Bucket has none, and its length
+-- the address of a descriptor, none for a Bit Bucket, and its length
 abbrev pub address : Descriptor → ℕ
 address (DataBlock addr len) = addr
 address (BitBucket len) = 0
@@ -93,7 +93,7 @@ abbrev pub passes_end : Descriptor → Bool
 passes_end d = nat_lt (2 ^ 64) (address d + size d)
 
 -- The first fault of a descriptor that was read and has a type, at a cursor (which says how many descriptors are
--- left in the segment, itself among them, and what names the segment). How many bytes are wanted is no matter.
+-- left in the segment, itself among them, and what names the segment). How many bytes are wanted does not matter.
 abbrev pub first_cause : Cursor → Descriptor → Option FaultCause
 first_cause c d =
     first_passing (
@@ -130,7 +130,7 @@ moving m (suc n) place len offset rest =
     (moving m n (place + first_part place len) (len - first_part place len) (offset + first_part place len) rest)
     else Does Stays (Closes (Fault DATA_TRANSFER_ERROR))
 
--- where the descriptor behind one stands, if there is another in its segment
+-- where the descriptor after one is, if there is another in its segment
 abbrev pub next : Cursor → Option Cursor
 next c = if nat_lt 1 c.left then Some (record { place = c.place + 16; left = c.left - 1; named = c.named }) else None
 
@@ -138,8 +138,8 @@ next c = if nat_lt 1 c.left then Some (record { place = c.place + 16; left = c.l
 abbrev pub segment_start : Named → ℕ → ℕ → Cursor
 segment_start named addr len = record { place = addr; left = len / 16; named = named }
 
--- What follows a descriptor without fault. `later` says what follows behind it, with so many bytes still wanted. Of a Data
--- Block the wanted front is moved, and no descriptor counts more than is wanted.
+-- What follows a descriptor without fault. `later` says what follows it, with this many bytes still wanted. Of a Data
+-- Block the wanted prefix is moved, and no descriptor counts more than is wanted.
 abbrev pub goes_on : Memory → Direction → ℕ → Cursor → ℕ → (Option Cursor → ℕ → Course) → Descriptor → Course
 goes_on m dir need c wanted later (DataBlock addr len) =
     moving m (pages_spanned addr (min len wanted)) addr (min len wanted) (need - wanted) (later (next c) (wanted - len))
@@ -156,17 +156,17 @@ abbrev pub after_read : Memory → Direction → ℕ → Cursor → ℕ → (Opt
 after_read m dir need c wanted later None = Closes (Fault SGL_TYPE_INVALID)
 after_read m dir need c wanted later (Some d) = unless_fault (first_fault c d) (goes_on m dir need c wanted later d)
 
--- what is left at a descriptor's place, given the bytes there
+-- what is left at a descriptor's address, given the bytes there
 abbrev pub read_at : Memory → Direction → ℕ → Cursor → ℕ → (Option Cursor → ℕ → Course) → Option (List ℕ) → Course
 read_at m dir need c wanted later None = Does Stays (Closes (Fault DATA_TRANSFER_ERROR))
 read_at m dir need c wanted later (Some bytes) = Does (Reads c.place) (after_read m dir need c wanted later (descriptor_of bytes))
 
--- What is left behind a descriptor, where `from` says what is left at a place: nothing, where no byte is wanted any more.
+-- What is left after a descriptor, where `from` says what is left at an address: nothing, where no more bytes are wanted.
 abbrev pub behind : (Cursor → ℕ → Course) → Option Cursor → ℕ → Course
 behind from None wanted = Closes (if nat_eq wanted 0 then End else Fault DATA_SGL_LENGTH_INVALID)
 behind from (Some c) wanted = if nat_eq wanted 0 then Closes End else from c wanted
 
--- what is left at a place, where the list may have k more descriptors
+-- what is left at an address, where the list may have k more descriptors
 unfoldable pub from_place : ℕ → Memory → Direction → ℕ → Cursor → ℕ → Course
 from_place zero m dir need c wanted = Does Stays (Closes (Fault INVALID_SGL_COUNT))
 from_place (suc k) m dir need c wanted = read_at m dir need c wanted (behind (from_place k m dir need)) (bytes_at m c.place 16)
@@ -174,7 +174,7 @@ from_place (suc k) m dir need c wanted = read_at m dir need c wanted (behind (fr
 abbrev pub rest_of : ℕ → Memory → Direction → ℕ → Option Cursor → ℕ → Course
 rest_of k m dir need = behind (from_place k m dir need)
 
--- The entry's descriptor stands in a segment of one that no descriptor names.
+-- The entry's descriptor is in a segment of one descriptor that no descriptor names.
 abbrev pub entry_cursor : Cursor
 entry_cursor = record { place = 0; left = 1; named = Unnamed }
 

@@ -34,7 +34,7 @@ course_in m w (Next c) = from_place w.allowed m w.direction w.need c w.wanted
 course_in m w (Data block after) = moving m (pages_spanned block.place block.len) block.place block.len block.offset (rest_of w.allowed m w.direction w.need after w.wanted)
 course_in m w (Over fault) = Closes End
 
--- what a walk still has to do in a memory; of one that is over nothing is left
+-- what a walk still has to do in a memory; nothing is left of one that is over
 abbrev pub course : Memory → Walk → Course
 course m w = course_in m w w.state
 
@@ -48,7 +48,7 @@ IfMore More P = P
 IfMore End P = Unit {0}
 IfMore (Fault status) P = Unit {0}
 
--- The step that leaves this course answers More where there is a unit to do, and else the verdict.
+-- The step that leaves this course answers More where there is a unit to do, and otherwise the verdict.
 abbrev pub answer : Course → WalkState
 answer (Closes v) = v
 answer (Does a rest) = More
@@ -57,7 +57,7 @@ answer (Does a rest) = More
 abbrev pub Leaves : Course → WalkState → Course → Type 0
 Leaves rest result left = (result ≡ answer rest) × IfMore result (left ≡ rest)
 
--- A move, within readable memory: a destination gets the command's bytes from the offset on, and nothing else of the
+-- A move, within readable memory: a destination gets the command's bytes starting at the offset, and nothing else of the
 -- memory changes; a source gives them, and nothing else of the command's bytes changes.
 abbrev pub Moved : Direction → ℕ → ℕ → ℕ → Memory → Memory → List ℕ → List ℕ → Type 0
 Moved Destination place n offset m m' bytes bytes' =
@@ -80,7 +80,7 @@ abbrev pub DoesFirst : Course → Direction → Memory → Memory → List ℕ �
 DoesFirst (Closes v) dir m m' bytes bytes' reached reached' = ⊥
 DoesFirst (Does a rest) dir m m' bytes bytes' reached reached' = Acts dir a m m' bytes bytes' reached reached'
 
--- There is a first unit of a course, and what is behind it is left.
+-- There is a first unit of a course, and what is after it is left.
 abbrev pub LeavesRest : Course → WalkState → Course → Type 0
 LeavesRest (Closes v) result left = ⊥
 LeavesRest (Does a rest) result left = Leaves rest result left
@@ -95,7 +95,7 @@ left_in w (Over fault) = 0
 abbrev pub left_of : Walk → ℕ
 left_of w = left_in w w.state
 
--- how many descriptors a walk may still read from memory, at most, whatever becomes of that memory between its steps
+-- how many descriptors a walk may still read from memory, at most, whatever happens to that memory between its steps
 abbrev pub reads_left : Walk → ℕ
 reads_left w = w.allowed
 

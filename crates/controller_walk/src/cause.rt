@@ -28,7 +28,7 @@ pub enum FaultCause {
     PastEndOfAddresses,
     /// A wanted byte of the descriptor's data is unreadable: 0:04.
     UnreadableData,
-    /// The descriptor is the last of the list, and bytes are still wanted behind it: 0:0F.
+    /// The descriptor is the last of the list, and bytes are still wanted after it: 0:0F.
     ListTooShort,
 }
 
@@ -52,7 +52,7 @@ impl FaultCause {
     }
 }
 
-/// A sentence for people, without a stop, as `it is a link, in a segment that a Last Segment descriptor names`; `it` is the descriptor.
+/// A sentence for people, without a full stop, as `it is a link, in a segment that a Last Segment descriptor names`; `it` is the descriptor.
 impl fmt::Display for FaultCause {
     fn fmt<W: fmt::Write>(&self, f: &mut fmt::Formatter<W>) -> fmt::Result {
         f.write_str(match self {
@@ -74,7 +74,7 @@ impl fmt::Display for FaultCause {
     }
 }
 
-/// Which descriptor of a list, and where it stands.
+/// Which descriptor of a list, and where it is.
 #[derive(Clone, Copy, Debug, PartialEq, Eq)]
 pub struct DescriptorAt {
     /// Its number in the list; the entry's own, SGL1, is 1.

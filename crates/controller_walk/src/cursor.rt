@@ -1,6 +1,6 @@
-//! Where a descriptor of a list stands.
+//! Where a descriptor of a list is.
 
-/// What names the segment in which a descriptor stands.
+/// What names the segment in which a descriptor is.
 #[derive(Clone, Copy, Debug)]
 pub enum Named {
     /// Nothing: the segment is the entry's one descriptor.
@@ -11,7 +11,7 @@ pub enum Named {
     ByLastSegment,
 }
 
-/// Where a descriptor stands, and how many are left in its segment, itself among them.
+/// Where a descriptor is, and how many are left in its segment, itself among them.
 #[derive(Clone, Copy, Debug)]
 pub struct Cursor {
     /// The address of its 16 bytes; 0 for the entry's own descriptor.

@@ -22,7 +22,7 @@ pub fn lists_hang_on_what_they_reach()
     ensures { (m other : Memory) → SameListWhereServed m other }
 {}
 
-/// So it is for what a walk still has to do: a page that it doesn't reach may come and go, and may be written.
+/// The same holds for what a walk still has to do: a page that it doesn't reach may come and go, and may be written.
 #[tactic(auto, using(crate::proofs::Same::walk_served))]
 pub fn walks_hang_on_what_they_reach()
     ensures { (m other : Memory) → SameWhereServed m other }
@@ -41,19 +41,19 @@ pub fn steps_do_units()
     ensures { (at : ℕ → Bool) (m : Memory) (c : Course) (t : ℕ) (w next : Walk) (answer : WalkState) → StepDoesUnit at m c t w next answer }
 {}
 
-/// Of each list at most 4,095 descriptors are read behind the entry's own, whatever the memory holds.
+/// At most 4,095 descriptors of each list are read after the entry's own, whatever the memory holds.
 pub fn lists_read_few_descriptors()
     ensures { (m : Memory) (sgl1 : List ℕ) (dir : Direction) (need : ℕ) → reads_in (units_of_list m sgl1 dir need) ≤ 4095 }
 {}
 
-/// Each byte that a list moves goes to or comes from the place that the targets of its parts give it, in the parts' order; of
-/// a part only the front counts that is still wanted. A descriptor is read only where bytes are still wanted. The parts that a
-/// list that ends well takes count just the bytes that the command moves.
+/// Each byte that a list moves goes to or comes from the address that the targets of its parts give it, in the parts' order; of
+/// a part only the prefix that is still wanted counts. A descriptor is read only where bytes are still wanted. The parts that a
+/// list that ends well takes count exactly the bytes that the command moves.
 pub fn lists_move_along_targets()
     ensures { (m : Memory) (sgl1 : List ℕ) (dir : Direction) (need : ℕ) → ListMovesAlong m sgl1 dir need }
 {}
 
-/// A list that ends well moves each of the command's bytes that has a place for its target.
+/// A list that ends well moves each of the command's bytes that has an address for its target.
 pub fn lists_move_all_bytes()
     ensures { (m : Memory) (sgl1 : List ℕ) (dir : Direction) (need : ℕ) → ListMovesAll m sgl1 dir need }
 {}

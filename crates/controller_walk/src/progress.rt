@@ -27,7 +27,7 @@ pub struct Block {
     pub place: u64,
     /// How many bytes are left.
     pub len: u32,
-    /// Where the next byte stands among the command's bytes.
+    /// Where the next byte is among the command's bytes.
     pub offset: u32,
     /// The address of its descriptor; `None` for the entry's.
     pub descriptor: Option<u64>,
@@ -40,7 +40,7 @@ pub enum State {
     First([u8; 16]),
     /// A descriptor in memory.
     Next(Cursor),
-    /// A Data Block, and behind it another descriptor or the list's end.
+    /// A Data Block, and after it another descriptor or the list's end.
     Data(Block, Option<Cursor>),
     /// Nothing: the verdict was answered, with that fault.
     Over(Option<WalkFault>),
@@ -93,12 +93,12 @@ impl Progress {
             State::First(sgl1) => self.take(ENTRY, None, &sgl1),
             State::Next(cursor) => self.take_next(cursor, dma),
             State::Data(block, after) => self.move_part(block, after, dma, staging),
-            // A walk that is over is stepped by nobody: the caller owes it.
+            // Nobody steps a walk that is over: the caller guarantees it.
             State::Over(_) => unreachable!(),
         }
     }
 
-    /// The descriptor that was taken last, which stands at that address.
+    /// The descriptor that was taken last, which is at that address.
     pub fn taken_last(self, place: Option<u64>) -> DescriptorAt
         requires bounded { IsBounded self }
         ensures { result ≡ spec_taken_last self place }
@@ -125,7 +125,7 @@ impl Progress {
         (Progress { state, ..self }, WalkState::Fault(cause.status()))
     }
 
-    /// Goes on behind a descriptor that is done and stands at `at`, if bytes are still wanted.
+    /// Goes on after a descriptor that is done and is at `at`, if bytes are still wanted.
     #[tactic(auto, using(crate::proofs::Courses::more_at, crate::proofs::Courses::still_wants))]
     fn go(self, after: Option<Cursor>, at: Option<u64>) -> (Progress, WalkState)
         requires bounded { IsBounded self }
@@ -191,7 +191,7 @@ impl Progress {
         }
     }
 
-    /// Takes a descriptor that stands at `at` and whose bytes were read.
+    /// Takes a descriptor that is at `at` and whose bytes were read.
     fn take(self, cursor: Cursor, at: Option<u64>, bytes: &[u8; 16]) -> (Progress, WalkState)
         requires bounded { IsBounded self }
         requires cursor { IsCursor cursor }
@@ -215,7 +215,7 @@ impl Progress {
         }
     }
 
-    /// Goes on behind a descriptor without fault that stands at `at`, or into it.
+    /// Goes on after a descriptor without fault that is at `at`, or into it.
     fn follow(
         self,
         cursor: Cursor,
@@ -260,7 +260,7 @@ impl Progress {
 }
 
 impl Progress {
-    /// Begins to move the wanted front of a Data Block whose descriptor stands at `at`, and behind which another may stand.
+    /// Begins to move the wanted prefix of a Data Block whose descriptor is at `at`, and after which another may come.
     fn start(
         self,
         place: u64,
@@ -348,7 +348,7 @@ impl Progress {
         }
     }
 
-    /// Goes on behind the part of a Data Block that was moved.
+    /// Goes on after the part of a Data Block that was moved.
     fn advance(self, block: Block, n: u32, after: Option<Cursor>) -> (Progress, WalkState)
         requires bounded { IsBounded self }
         requires block { IsBlock self.need self.wanted block }
@@ -379,7 +379,7 @@ impl Progress {
     }
 }
 
-/// How many bytes a descriptor counts: a Bit Bucket counts for a destination alone, and a link never.
+/// How many bytes a descriptor counts: a Bit Bucket counts only for a destination, and a link never.
 fn counted(direction: Direction, descriptor: Descriptor) -> u32
     ensures { result ≡ spec_counted direction descriptor }
 {
@@ -404,7 +404,7 @@ fn segment(addr: u64, len: u32, named: Named) -> Cursor
     }
 }
 
-/// The descriptor behind one, if its segment has another.
+/// The descriptor after one, if its segment has another.
 fn next(cursor: Cursor) -> Option<Cursor>
     requires { cursor.left ≤ 1 ⊎ (cursor.place + 16 * cursor.left ≤ 2 ^ 64) }
     ensures { result ≡ spec_next cursor }

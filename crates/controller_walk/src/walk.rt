@@ -20,8 +20,8 @@ use std::marker::Model;
 pub enum WalkState {
     /// The walk goes on.
     More,
-    /// All the bytes of the command are counted, and each of these that has a place was moved. What the list has behind them was
-    /// not looked at.
+    /// All the bytes of the command are counted, and each of these that has an address was moved. What the list has after them was
+    /// not examined.
     End,
     /// The walk met a fault, and is over: 0:04 for an unreadable byte, 0:0D, 0:0E, 0:0F or 0:11 for a list that breaks a rule (NVM
     /// Express Base Specification 2.0, Generic Command Status Values; which comes first is this project's own). [`Walk::fault`] says which.
@@ -92,14 +92,14 @@ impl Walk {
         ensures fault { fault_of self.new ≡ fault_met (D.memory dma.old) self.old }
         ensures status { fault_status (fault_of self.new) ≡ answered_status result }
 
-        // What the descriptor counts that is taken is added, as far as it is wanted; a walk that ends well has counted all.
+        // What the taken descriptor counts is added, as far as it is wanted; a walk that ends well has counted all.
         ensures counts { counted_of self.new ≡ min (need_of self.old) (counted_of self.old + counts_of (D.memory dma.old) self.old) }
         ensures ended { result ≡ End → counted_of self.new ≡ need_of self.new }
         ensures direction { direction_of self.new ≡ direction_of self.old }
         ensures need { need_of self.new ≡ need_of self.old }
         ensures fewer { IfMore result (left_of self.new < left_of self.old) }
 
-        // So a walk reads at most 4,095 descriptors, whatever becomes of the memory between its steps.
+        // So a walk reads at most 4,095 descriptors, whatever happens to the memory between its steps.
         ensures reads { reads_first (course (D.memory dma.old) self.old) + reads_left self.new ≤ reads_left self.old }
         ensures touches { length (D.reached dma.new) ≤ length (D.reached dma.old) + 2 }
         ensures unlisted { D.unlisted dma.new ≡ D.unlisted dma.old }

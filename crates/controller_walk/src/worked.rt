@@ -19,7 +19,7 @@ pub fn worked_pages()
 {}
 
 /// Lists of the entry's one descriptor, for 512 bytes. A block of 511 is moved, and the list ends too early; of one of
-/// 513 the wanted front is moved. One that ends above 2^64 is refused, also where only a front of 256 bytes is wanted, which ends
+/// 513 the wanted prefix is moved. One that ends above 2^64 is refused, also where only a prefix of 256 bytes is wanted, which ends
 /// at 2^64. So is a type above 3 and a subtype that isn't 0.
 #[tactic(auto, unfolding(crate::specs::Units::moving, sgl_descriptor::specs::Spelling::descriptor_of, page_memory::specs::Memory::bytes_at))]
 pub fn worked_entries()
@@ -43,7 +43,7 @@ pub fn worked_missing_byte()
     ensures verdict { verdict_of_list eight_pages (spelling (DataBlock 0x7FFF 2)) Destination 2 ≡ Fault (record { sct = 0; sc = 0x04 }) }
 {}
 
-/// A segment with a link behind a block: in a last segment the link is refused, and in another as it isn't in the last place.
+/// A segment with a link after a block: in a last segment the link is refused, and in another as it isn't in the last place.
 #[tactic(auto, unfolding(crate::specs::Units::moving, crate::specs::Units::from_place, sgl_descriptor::specs::Spelling::descriptor_of, page_memory::specs::Memory::bytes_at))]
 pub fn worked_links()
     ensures in_last { units_of_list (with_descriptors 0x1000 (DataBlock 0x2000 512 ∷ Segment 0x3000 16 ∷ [])) (spelling (LastSegment 0x1000 32)) Destination 1024
@@ -69,7 +69,7 @@ pub fn worked_buckets()
         ≡ Fault (record { sct = 0; sc = 0x0F }) }
 {}
 
-/// Lists that are longer than the data: the descriptor behind the wanted bytes is not read, be it a block, behind a block or a bucket, or a
+/// Lists that are longer than the data: the descriptor after the wanted bytes is not read, be it a block, after a block or a bucket, or a
 /// link that would be a fault, and a block that crosses the end of the wanted bytes is moved as far as they go.
 #[tactic(auto, unfolding(crate::specs::Units::moving, crate::specs::Units::from_place, sgl_descriptor::specs::Spelling::descriptor_of, page_memory::specs::Memory::bytes_at))]
 pub fn worked_longer_lists()

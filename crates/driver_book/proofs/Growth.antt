@@ -49,7 +49,7 @@ module _ {E : Type 0} (c : Coded E) where
 
     infix 26 ◌⊢◌
     infixr 35 ◌∗◌
-    -- one entry more
+    -- one more entry
     pub pushes : (xs : List E) (y : E) → ⟦ grows c.code name xs ⟧ ⊢ H.⇛ ⟦ grows c.code name (xs ++ y ∷ []) ⟧
     unfolding grows
     pushes xs y = via 𝓤 _ (latest_grows lists 𝓛 name (map c.code xs) (map c.code (xs ++ y ∷ [])) (prefix_in xs y)) (basic 𝓛 _)

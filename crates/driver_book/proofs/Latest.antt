@@ -10,26 +10,26 @@ use Rattle.slot_table.{proofs.Rows.value_at-none, proofs.Walks.put_value, specs.
 use Rattle.driver_book.proofs.StandsInReceipts.{both_true}
 use Rattle.driver_book.specs.{Calls.Learns, Entries.Entry, History.{accepted, after_first, last_place}, Latest.{is_place, IsLatest}, State.SeatContents}
 
--- with one draft more
+-- with one more draft
 pub last_behind : (q cid : ℕ) (drafts : List DraftContents) (d : DraftContents)
     → last_place q cid (drafts ++ d ∷ []) ≡ (if is_draft q cid d then Some (length drafts) else last_place q cid drafts)
-last_behind q cid [] d = go (is_draft q cid d)
+last_behind q cid [] d = by_draft (is_draft q cid d)
   where
-    go : (b : Bool) → after_first None b ≡ (if b then Some 0 else None)
-    go true = refl
-    go false = refl
-last_behind q cid (x ∷ xs) d = ap (λ (o : Option ℕ). after_first o (is_draft q cid x)) (last_behind q cid xs d) ∙ go (is_draft q cid d)
+    by_draft : (b : Bool) → after_first None b ≡ (if b then Some 0 else None)
+    by_draft true = refl
+    by_draft false = refl
+last_behind q cid (x ∷ xs) d = ap (λ (o : Option ℕ). after_first o (is_draft q cid x)) (last_behind q cid xs d) ∙ by_draft (is_draft q cid d)
   where
-    go : (b : Bool) → after_first (if b then Some (length xs) else last_place q cid xs) (is_draft q cid x)
+    by_draft : (b : Bool) → after_first (if b then Some (length xs) else last_place q cid xs) (is_draft q cid x)
         ≡ (if b then Some (length (x ∷ xs)) else after_first (last_place q cid xs) (is_draft q cid x))
-    go true = ap (λ (n : ℕ). Some n) (add-one (length xs))
-    go false = refl
+    by_draft true = ap (λ (n : ℕ). Some n) (add-one (length xs))
+    by_draft false = refl
 
 same_place : (q cid p id : ℕ) → is_place q cid p id ≡ true → (q ≡ p) × (cid ≡ id)
 same_place q cid p id is =
     let both = both_true (q == p) (cid == id) is in (eqb-true q p both.0, eqb-true cid id both.1)
 
--- so a table stays right that has the number of the new one in its place, and nothing else new
+-- so a table stays right that has the number of the new one in its slot, and nothing else new
 pub latest_behind : (before after : List (Row ℕ)) (drafts : List DraftContents) (d : DraftContents) (q cid number : ℕ) → q ≡ d.q → cid ≡ d.cid → number ≡ length drafts
     → IsLatest before drafts → ((n : ℕ) → value_at after q cid ≡ Some n → n ≡ number)
     → ((p id n : ℕ) → is_place q cid p id ≡ false → value_at after p id ≡ Some n → value_at before p id ≡ Some n)
@@ -46,7 +46,7 @@ latest_behind before after drafts d q cid number queue identifier count latest t
           last_behind p id drafts d ∙ rw other (latest p id n (others p id n away found))
     ]
 
--- What is taken out and put
+-- What is taken out and put in
 
 at_place : (row : Row ℕ) (q cid p id : ℕ) → is_at row q cid ≡ true → is_place q cid p id ≡ false → is_at row p id ≡ false
 at_place row q cid p id here away =
@@ -58,24 +58,24 @@ others_stay [] q cid p id n away found = found
 others_stay (row ∷ rows) q cid p id n away found =
     elim (cases_Bool (is_at row q cid)) [
       | inl here ↦ rw (at_place row q cid p id here away) (rw here at found)
-      | inr other ↦ go (is_at row p id) (λ f. others_stay rows q cid p id n away f) (rw other at found)
+      | inr other ↦ by_row (is_at row p id) (λ f. others_stay rows q cid p id n away f) (rw other at found)
     ]
   where
-    go : (b : Bool) → (value_at (without rows q cid) p id ≡ Some n → value_at rows p id ≡ Some n) → (if b then Some row.value else value_at (without rows q cid) p id) ≡ Some n
+    by_row : (b : Bool) → (value_at (without rows q cid) p id ≡ Some n → value_at rows p id ≡ Some n) → (if b then Some row.value else value_at (without rows q cid) p id) ≡ Some n
         → (if b then Some row.value else value_at rows p id) ≡ Some n
-    go true rest f = f
-    go false rest f = rest f
+    by_row true rest f = f
+    by_row false rest f = rest f
 
 pub others_before : (rows : List (Row ℕ)) (q cid number p id n : ℕ) → is_place q cid p id ≡ false → value_at (with_last rows q cid number) p id ≡ Some n → value_at rows p id ≡ Some n
 others_before [] q cid number p id n away found = absurd (none-some n (rw away at found))
-others_before (row ∷ rows) q cid number p id n away found = go (is_at row p id) (λ f. others_before rows q cid number p id n away f) found
+others_before (row ∷ rows) q cid number p id n away found = by_row (is_at row p id) (λ f. others_before rows q cid number p id n away f) found
   where
-    go : (b : Bool) → (value_at (with_last rows q cid number) p id ≡ Some n → value_at rows p id ≡ Some n) → (if b then Some row.value else value_at (with_last rows q cid number) p id) ≡ Some n
+    by_row : (b : Bool) → (value_at (with_last rows q cid number) p id ≡ Some n → value_at rows p id ≡ Some n) → (if b then Some row.value else value_at (with_last rows q cid number) p id) ≡ Some n
         → (if b then Some row.value else value_at rows p id) ≡ Some n
-    go true rest f = f
-    go false rest f = rest f
+    by_row true rest f = f
+    by_row false rest f = rest f
 
--- nothing is left in the place
+-- nothing is left in the slot
 none_left : (rows : List (Row ℕ)) (q cid : ℕ) (taken : Option ℕ) → taken ≡ value_at rows q cid → IfSome taken (λ _. IsDistinct rows) → value_at (without rows q cid) q cid ≡ None
 none_left [] q cid taken is distinct = refl
 none_left (row ∷ rows) q cid None is distinct =
@@ -121,12 +121,12 @@ same_beginning xs ys same = ([], append-nil xs ∙ sym same)
 longer : {A : Type 0} (xs ys : List A) (y : A) → IsPrefix xs ys → IsPrefix xs (ys ++ y ∷ [])
 longer {A = A} xs ys y p = (p.0 ++ y ∷ [], sym (append_assoc xs p.0 (y ∷ [])) ∙ ap (λ (zs : List A). zs ++ y ∷ []) p.1)
 
--- which stands at its end
+-- which is at its end
 at_end : {A : Type 0} (xs : List A) (x : A) → slice_get (xs ++ x ∷ []) (length xs) ≡ Some x
 at_end [] x = refl
 at_end (y ∷ xs) x = at_end xs x
 
--- what stands in a beginning stands in the whole, at the same place
+-- what is in a beginning is in the whole, at the same index
 pub stands_on : {A : Type 0} (xs ys : List A) (k : ℕ) (x : A) → IsPrefix xs ys → slice_get xs k ≡ Some x → slice_get ys k ≡ Some x
 stands_on [] ys k x p found = absurd (none-some x found)
 stands_on (y ∷ xs) [] k x p found = absurd (cc (p.1))

@@ -34,17 +34,17 @@ first_taken : (e : Event) (r : events.Reply) → with_draft [] e r ≡ submitted
 first_taken (events.Submit d) events.Accepted = refl
 first_taken e r = refl
 
--- what comes behind others, and what stands before
+-- what comes after others, and what is before them
 taken_first : (first later : List DraftContents) (e : Event) (r : events.Reply) → with_draft (first ++ later) e r ≡ first ++ with_draft later e r
 taken_first first later (events.Submit d) events.Accepted = append_assoc first later (d ∷ [])
 taken_first first later e r = refl
 
--- a step that is no accepted submission has no draft
+-- a step that is not an accepted submission has no draft
 no_draft : (drafts : List DraftContents) (e : Event) (r : events.Reply) → is_submission (asked e) (told r) ≡ false → with_draft drafts e r ≡ drafts
 no_draft drafts (events.Submit d) events.Accepted other = absurd (true≢false other)
 no_draft drafts e r other = refl
 
--- one step more
+-- one more step
 pub leads_further : (old mid new : State) (log : List Entry) (e : Entry) → LeadsTo old log mid → TellsOf mid e new → LeadsTo old (log ++ e ∷ []) new
 leads_further old mid new [] e same tells = (new, subst (λ (s : State). TellsOf s e new) same tells, refl)
 leads_further old mid new (first ∷ log) e (next, made, rest) tells = (next, made, leads_further next mid new log e rest tells)
@@ -52,10 +52,10 @@ leads_further old mid new (first ∷ log) e (next, made, rest) tells = (next, ma
 -- so with its drafts
 leads_by_further : (old mid new : State) (log : List Entry) (drafts : List DraftContents) (e : Entry) → LeadsBy old log drafts mid → (tells : TellsOf mid e new)
     → LeadsBy old (log ++ e ∷ []) (with_draft drafts tells.event tells.answer) new
-leads_by_further old mid new [] drafts e (same, none) tells = rw none (go same tells)
+leads_by_further old mid new [] drafts e (same, none) tells = rw none (one_entry_leads same tells)
   where
-    go : mid ≡ old → (t : TellsOf mid e new) → LeadsBy old (e ∷ []) (with_draft [] t.event t.answer) new
-    go is t = subst (λ (s : State). LeadsBy s (e ∷ []) (with_draft [] t.event t.answer) new) is (new, t, [], first_taken t.event t.answer, (refl, refl))
+    one_entry_leads : mid ≡ old → (t : TellsOf mid e new) → LeadsBy old (e ∷ []) (with_draft [] t.event t.answer) new
+    one_entry_leads is t = subst (λ (s : State). LeadsBy s (e ∷ []) (with_draft [] t.event t.answer) new) is (new, t, [], first_taken t.event t.answer, (refl, refl))
 leads_by_further old mid new (first ∷ log) drafts e (next, made, later, are, rest) tells =
     (next, made, with_draft later tells.event tells.answer, ap (λ (ds : List DraftContents). with_draft ds tells.event tells.answer) are ∙ taken_first (submitted_by made.event made.answer) later tells.event tells.answer, leads_by_further next mid new log later e rest tells)
 
@@ -64,7 +64,7 @@ abbrev pub leads_of : (old new : State) (log : List Entry) (drafts : List DraftC
 leads_of old new [] drafts by = by.0
 leads_of old new (e ∷ log) drafts (next, made, later, are, rest) = (next, made, leads_of next new log later rest)
 
--- one log behind the other
+-- one log after the other
 pub leads_on : pieces_are_one_history
 leads_on old [] mid after new same leads = subst (λ (s : State). LeadsTo s after new) same leads
 leads_on old (e ∷ before) mid after new (next, made, rest) leads = (next, made, leads_on next before mid after new rest leads)
@@ -80,10 +80,10 @@ order_along old new [] same order = subst IsInOrder (sym same) order
 order_along old new (e ∷ log) (next, made, rest) order = order_along next new log rest (order_kept old made.event made.answer next order made.step)
 
 pub entries_stay : entries_name_allowed_pages
-entries_stay config image before e after world opens is_image leads = go (leads_apart (opening_of config image) world before (e ∷ after) leads)
+entries_stay config image before e after world opens is_image leads = is_entry (leads_apart (opening_of config image) world before (e ∷ after) leads)
   where
-    go : (mid : State) × LeadsTo (opening_of config image) before mid × LeadsTo mid (e ∷ after) world → IsEntryOf (opening_of config image) before e after world
-    go (old, comes, (new, tells, goes)) =
+    is_entry : (mid : State) × LeadsTo (opening_of config image) before mid × LeadsTo mid (e ∷ after) world → IsEntryOf (opening_of config image) before e after world
+    is_entry (old, comes, (new, tells, goes)) =
         let order : IsInOrder old = order_along (opening_of config image) old before comes (opens_in_order config.pages config.queues config.entries config.segment image opens is_image) in
         record {
           old = old;
@@ -115,7 +115,7 @@ drafts_by : (old new : State) (log : List Entry) (leads : LeadsTo old log new) �
 drafts_by old new [] same = refl
 drafts_by old new (e ∷ log) (next, tells, rest) = rw (tells.drafts, drafts_by next new log rest) refl
 
--- an entry is an accepted forgery where the step is of which it tells
+-- an entry is an accepted forgery where the step that it tells of is one
 pub forged_by : (old new : State) (log : List Entry) (leads : LeadsTo old log new) → list_any is_forgery log ≡ list_any laws.is_forgery (made_by old new log leads)
 forged_by old new [] same = refl
 forged_by old new (e ∷ log) (next, tells, rest) = rw (tells.asks, tells.tells, same_forgery tells.event tells.answer, forged_by next new log rest) refl
@@ -177,15 +177,15 @@ forged_since old new (e ∷ log) (next, tells, rest) =
     let later : list_any is_reset log ≡ list_any laws.is_reset made = reset_by next new log rest in
     let reset : resets e.step ≡ machine.resets tells.event = ap resets tells.asks ∙ same_reset tells.event in
     let forged : forges_by e.step e.answer ≡ laws.forges_by tells.event tells.answer = rw (tells.asks, tells.tells) (same_forgery tells.event tells.answer) in
-    rw (later, reset) (go (list_any laws.is_reset made) (machine.resets tells.event) forged (forged_by next new log rest) (forged_since next new log rest))
+    rw (later, reset) (by_resets (list_any laws.is_reset made) (machine.resets tells.event) forged (forged_by next new log rest) (forged_since next new log rest))
   where
-    go : (b c : Bool) → forges_by e.step e.answer ≡ laws.forges_by tells.event tells.answer → list_any is_forgery log ≡ list_any laws.is_forgery (made_by next new log rest)
+    by_resets : (b c : Bool) → forges_by e.step e.answer ≡ laws.forges_by tells.event tells.answer → list_any is_forgery log ≡ list_any laws.is_forgery (made_by next new log rest)
         → list_any is_forgery (since_reset log) ≡ list_any laws.is_forgery (histories.since_reset (made_by next new log rest))
         → list_any is_forgery (if b then since_reset log else if c then log else e ∷ log)
         ≡ list_any laws.is_forgery (if b then histories.since_reset (made_by next new log rest) else if c then made_by next new log rest else record { before = old; event = tells.event; reply = tells.answer } ∷ made_by next new log rest)
-    go true c here all since = since
-    go false true here all since = all
-    go false false here all since = rw (here, all) refl
+    by_resets true c here all since = since
+    by_resets false true here all since = all
+    by_resets false false here all since = rw (here, all) refl
 
 pub trusted_logs : trusted_ends_are_unforged
 trusted_logs old log world leads trusted =
@@ -215,40 +215,40 @@ draft_longer : (xs ys : List Piece) (ps qs : List ℕ) (d : KeptDraft) → Draft
 draft_longer xs ys ps qs d fits =
     rw (request_longer xs ys d.request fits.0, part_longer ps qs d.data_pages fits.1, part_longer ps qs d.chain_pages fits.2) refl
 
--- what stands at a place of a list stands there in a longer one
+-- what is at an index of a list is there in a longer one
 place_longer : (ds es : List KeptDraft) (place : ℕ) → place < length ds → slice_get (ds ++ es) place ≡ slice_get ds place
 place_longer [] es place less = absurd (omega arith)
 place_longer (d ∷ ds) es zero less = refl
 place_longer (d ∷ ds) es (suc place) less = place_longer ds es place (omega (arith, less))
 
--- and the one behind it
+-- and the one after it
 pub place_behind : (ds : List KeptDraft) (d : KeptDraft) (place : ℕ) → place ≡ length ds → slice_get (ds ++ d ∷ []) place ≡ Some d
-place_behind ds d place is = ap (λ (i : ℕ). slice_get (ds ++ d ∷ []) i) is ∙ go ds
+place_behind ds d place is = ap (λ (i : ℕ). slice_get (ds ++ d ∷ []) i) is ∙ stands_at_end ds
   where
-    go : (xs : List KeptDraft) → slice_get (xs ++ d ∷ []) (length xs) ≡ Some d
-    go [] = refl
-    go (x ∷ xs) = go xs
+    stands_at_end : (xs : List KeptDraft) → slice_get (xs ++ d ∷ []) (length xs) ≡ Some d
+    stands_at_end [] = refl
+    stands_at_end (x ∷ xs) = stands_at_end xs
 
--- the draft at a place fits
+-- the draft at an index fits
 pub fits_at : (n p : ℕ) (ds : List KeptDraft) (place : ℕ) (d : KeptDraft) → AllDraftsFit n p ds → slice_get ds place ≡ Some d → DraftFits n p d
 fits_at n p ds place d fit at = all-at (DraftFits n p) ds place d at fit
 
 request_at_longer : (xs ys : List Piece) (ps : List ℕ) (ds es : List KeptDraft) (place : ℕ) → AllDraftsFit (length xs) (length ps) ds → place < length ds
     → request_of (xs ++ ys) (slice_get (ds ++ es) place) ≡ request_of xs (slice_get ds place)
-request_at_longer xs ys ps ds es place fit less = ap (request_of (xs ++ ys)) (place_longer ds es place less) ∙ go (slice_get ds place) refl
+request_at_longer xs ys ps ds es place fit less = ap (request_of (xs ++ ys)) (place_longer ds es place less) ∙ by_draft (slice_get ds place) refl
   where
-    go : (o : Option KeptDraft) → slice_get ds place ≡ o → request_of (xs ++ ys) o ≡ request_of xs o
-    go None at = refl
-    go (Some d) at = request_longer xs ys d.request (fits_at (length xs) (length ps) ds place d fit at).0
+    by_draft : (o : Option KeptDraft) → slice_get ds place ≡ o → request_of (xs ++ ys) o ≡ request_of xs o
+    by_draft None at = refl
+    by_draft (Some d) at = request_longer xs ys d.request (fits_at (length xs) (length ps) ds place d fit at).0
 
 draft_at_longer : (xs ys : List Piece) (ps qs : List ℕ) (ds es : List KeptDraft) (at : Option ℕ) → AllDraftsFit (length xs) (length ps) ds → PlaceFits (length ds) at
     → option_map (shown_draft (xs ++ ys) (ps ++ qs)) (draft_at (ds ++ es) at) ≡ option_map (shown_draft xs ps) (draft_at ds at)
 draft_at_longer xs ys ps qs ds es None fit less = refl
-draft_at_longer xs ys ps qs ds es (Some place) fit less = ap (option_map (shown_draft (xs ++ ys) (ps ++ qs))) (place_longer ds es place less) ∙ go (slice_get ds place) refl
+draft_at_longer xs ys ps qs ds es (Some place) fit less = ap (option_map (shown_draft (xs ++ ys) (ps ++ qs))) (place_longer ds es place less) ∙ by_draft (slice_get ds place) refl
   where
-    go : (o : Option KeptDraft) → slice_get ds place ≡ o → option_map (shown_draft (xs ++ ys) (ps ++ qs)) o ≡ option_map (shown_draft xs ps) o
-    go None at = refl
-    go (Some d) at = ap (λ (x : LoggedDraft). Some x) (draft_longer xs ys ps qs d (fits_at (length xs) (length ps) ds place d fit at))
+    by_draft : (o : Option KeptDraft) → slice_get ds place ≡ o → option_map (shown_draft (xs ++ ys) (ps ++ qs)) o ≡ option_map (shown_draft xs ps) o
+    by_draft None at = refl
+    by_draft (Some d) at = ap (λ (x : LoggedDraft). Some x) (draft_longer xs ys ps qs d (fits_at (length xs) (length ps) ds place d fit at))
 
 step_longer : (xs ys : List Piece) (ps : List ℕ) (ds es : List KeptDraft) (s : KeptStep) → AllDraftsFit (length xs) (length ps) ds → StepFits (length ds) s
     → shown_step (xs ++ ys) (ds ++ es) s ≡ shown_step xs ds s
@@ -275,7 +275,7 @@ place_fits_more n m (Some place) fits more = omega (arith, fits, more)
 draft_fits_more : (n m p q : ℕ) (d : KeptDraft) → DraftFits n p d → n ≤ m → p ≤ q → DraftFits m q d
 draft_fits_more n m p q d fits more further = (fits_more n m d.request.pieces fits.0 more, fits_more p q d.data_pages fits.1 further, fits_more p q d.chain_pages fits.2 further)
 
--- a request without pages, wherever pages stand
+-- a request without pages, wherever pages are
 pub without_draft_fits : (n p : ℕ) (d : KeptDraft) → DraftFits n 0 d → DraftFits n p d
 without_draft_fits n p d fits = draft_fits_more n n 0 p d fits (omega arith) (omega arith)
 
@@ -289,7 +289,7 @@ drafts_fit_more : (n m p q : ℕ) (ds others : List KeptDraft) → AllDraftsFit 
 drafts_fit_more n m p q [] others fit more further fits = fits
 drafts_fit_more n m p q (x ∷ ds) others fit more further fits = (draft_fits_more n m p q x fit.0 more further, drafts_fit_more n m p q ds others fit.1 more further fits)
 
--- what is kept of a log with one entry more
+-- what is kept of a log with one more entry
 pub kept_more : (xs xs2 more : List Piece) (ps ps2 further : List ℕ) (ds ds2 others : List KeptDraft) (kept : List Kept) (k : Kept) → Stands xs ps ds kept
     → xs2 ≡ xs ++ more → ps2 ≡ ps ++ further → ds2 ≡ ds ++ others
     → map (shown xs2 ps2 ds2) (kept ++ k ∷ []) ≡ map (shown xs ps ds) kept ++ shown xs2 ps2 ds2 k ∷ []
@@ -297,7 +297,7 @@ kept_more xs xs2 more ps ps2 further ds ds2 others kept k stands pieces pages dr
     let same : map (shown xs2 ps2 ds2) kept ≡ map (shown xs ps ds) kept = rw (pieces, pages, drafts) (all_longer xs more ps further ds others kept stands.drafts_fit stands.entries_fit) in
     map-append (shown xs2 ps2 ds2) kept (k ∷ []) ∙ ap (λ (es : List Entry). es ++ shown xs2 ps2 ds2 k ∷ []) same
 
--- and that it stands in its lists
+-- and that it is in its lists
 pub stands_more : (xs xs2 more : List Piece) (ps ps2 further : List ℕ) (ds ds2 others : List KeptDraft) (kept : List Kept) (k : Kept) → Stands xs ps ds kept
     → xs2 ≡ xs ++ more → ps2 ≡ ps ++ further → ds2 ≡ ds ++ others
     → length xs2 ≤ most_places → length ps2 ≤ most_places → length ds2 ≤ most_places
@@ -323,7 +323,7 @@ pub bare_fits : (n : ℕ) (s : KeptStep) → HasNoRequest s → StepFits n s
 bare_fits n (step.Reserve q place) none = absurd none
 bare_fits n s none = tt
 
--- a draft of which the parts were put behind the lists
+-- a draft whose parts were put at the end of the lists
 pub kept_draft : (ps : List Piece) (q0 q1 q2 : List ℕ) (d : KeptDraft) (request : Request) (first second : List ℕ) → shown_request ps d.request ≡ request → q1 ≡ q0 ++ first → q2 ≡ q1 ++ second
     → d.data_pages.start ≡ length q0 → d.data_pages.end ≡ length q1 → d.chain_pages.start ≡ length q1 → d.chain_pages.end ≡ length q2
     → shown_draft ps q2 d ≡ (let shows : LoggedDraft = record { request = request; data_pages = first; chain_pages = second } in shows)
@@ -355,18 +355,18 @@ pub stands_last : (xs : List Piece) (ps : List ℕ) (ds : List KeptDraft) (all k
     → (EntryFits (length ds) k → EntryFits (length ds) other) → Stands xs ps ds (kept ++ other ∷ [])
 stands_last xs ps ds all kept k other is stands same =
     record {
-      entries_fit = go kept (subst (λ (ks : List Kept). AllFit (length ds) ks) is stands.entries_fit);
+      entries_fit = all_still_fit kept (subst (λ (ks : List Kept). AllFit (length ds) ks) is stands.entries_fit);
       drafts_fit = stands.drafts_fit;
       few_pieces = stands.few_pieces;
       few_pages = stands.few_pages;
       few_drafts = stands.few_drafts;
     }
   where
-    go : (ks : List Kept) → AllFit (length ds) (ks ++ k ∷ []) → AllFit (length ds) (ks ++ other ∷ [])
-    go [] f = (same f.0, tt)
-    go (x ∷ ks) f = (f.0, go ks f.1)
+    all_still_fit : (ks : List Kept) → AllFit (length ds) (ks ++ k ∷ []) → AllFit (length ds) (ks ++ other ∷ [])
+    all_still_fit [] f = (same f.0, tt)
+    all_still_fit (x ∷ ks) f = (f.0, all_still_fit ks f.1)
 
--- An entry at a place
+-- An entry at an index
 
 -- A log that grows by a step.
 
@@ -413,7 +413,7 @@ not_accepted None b isnt = ap not isnt
 
 -- Books
 
--- an entry that is no accepted submission
+-- an entry that is not an accepted submission
 book_step : {b : Bool} {o w v : State} {log : List Entry} {drafts : List DraftContents} {tally parts out made ledger : ℕ} (seat : Option ℕ) (e : Event) (r : events.Reply)
     → IsBook b o w log drafts tally parts out made ledger → machine.Step w e r v → Admits b e → is_submission (asked e) (told r) ≡ false
     → IsBook b o v (log ++ entry_of seat e r ∷ []) drafts tally parts out made ledger
@@ -476,18 +476,18 @@ pub keeps_jobs : {b : Bool} {o w v : State} {log now : List Entry} {drafts : Lis
 keeps_jobs {b = alone} seat e r b step jobs other is = keeps_book seat e r b step (takes_jobs alone e jobs) other is
 
 reserved_by : (s : State) (q : ℕ) (request : Request) (d : DraftContents) → machine.Permits s (events.Reserve q request) (events.Reserved d) → machine.IsReserved s q request d
-reserved_by s q request d permits = go (s.trusted || true) permits
+reserved_by s q request d permits = by_trust (s.trusted || true) permits
   where
-    go : (b : Bool) → MatchBool b ((refusal_of s (events.Reserve q request) ≡ None) × machine.IsReserved s q request d) ⊥ → machine.IsReserved s q request d
-    go true p = p.1
-    go false p = absurd p
+    by_trust : (b : Bool) → MatchBool b ((refusal_of s (events.Reserve q request) ≡ None) × machine.IsReserved s q request d) ⊥ → machine.IsReserved s q request d
+    by_trust true p = p.1
+    by_trust false p = absurd p
 
 not_refused : (s : State) (q : ℕ) (request : Request) (d : DraftContents) → machine.Permits s (events.Reserve q request) (events.Reserved d) → refusal_of s (events.Reserve q request) ≡ None
-not_refused s q request d permits = go (s.trusted || true) permits
+not_refused s q request d permits = by_trust (s.trusted || true) permits
   where
-    go : (b : Bool) → MatchBool b ((refusal_of s (events.Reserve q request) ≡ None) × machine.IsReserved s q request d) ⊥ → refusal_of s (events.Reserve q request) ≡ None
-    go true p = p.0
-    go false p = absurd p
+    by_trust : (b : Bool) → MatchBool b ((refusal_of s (events.Reserve q request) ≡ None) × machine.IsReserved s q request d) ⊥ → refusal_of s (events.Reserve q request) ≡ None
+    by_trust true p = p.0
+    by_trust false p = absurd p
 
 -- so does an accepted submission, where it is counted, ..
 pub accepts_book : {b : Bool} {o w v : State} {log now : List Entry} {drafts : List DraftContents} {tally more parts out made ledger : ℕ} (seat : ℕ) (d : DraftContents) (answer : Result TicketContents (Refused DraftContents))
@@ -548,7 +548,7 @@ does old new v now room touches drafts tabled seat e (events.Refused refusal.Mem
 does old new v now room touches drafts tabled seat e (events.Refused why pages) step are is left = made old new v now room touches drafts tabled seat e (events.Refused why pages) step are is left
 does old new v now room touches drafts tabled seat e r step are is left = made old new v now room touches drafts tabled seat e r step are is left
 
--- so with the contents of a book that was opened, of a step that is no accepted submission
+-- so with the contents of a book that was opened, of a step that is not an accepted submission
 pub does_in : {at old : BookContents} → at ≡ old → (v : State) (now : List Entry) (room : Room) (touches : ℕ) (seat : Option ℕ) (e : Event) (r : events.Reply) → machine.Step at.world e r v
     → is_submission (asked e) (told r) ≡ false
     → now ≡ at.log ++ entries seat (asked e) (draft_of e r) (noted r) → Does old seat e r (let new : BookContents = record at { world = v; log = now; room = room; touches = touches } in new)
@@ -588,11 +588,11 @@ never_wanted (events.Fetch q) touched none may = true≢false none
 never_wanted e touched none may = may
 
 never_permitted : (s : State) (e : Event) (touched : List ℕ) → machine.allocates e ≡ false → machine.Permits s e (events.Refused refusal.Memory touched) → ⊥
-never_permitted s e touched none = go (s.trusted || not (machine.IsController e))
+never_permitted s e touched none = by_trust (s.trusted || not (machine.IsController e))
   where
-    go : (b : Bool) → MatchBool b (machine.Refuses s e refusal.Memory touched) (machine.MayRefuse e refusal.Memory touched) → ⊥
-    go true r = true≢false (sym r.0 ∙ none)
-    go false may = never_wanted e touched none may
+    by_trust : (b : Bool) → MatchBool b (machine.Refuses s e refusal.Memory touched) (machine.MayRefuse e refusal.Memory touched) → ⊥
+    by_trust true r = true≢false (sym r.0 ∙ none)
+    by_trust false may = never_wanted e touched none may
 
 pub takes_no_memory : (Cause : Type 0) (s new : State) (e : Event) (r : events.Reply) → machine.allocates e ≡ false → machine.Step s e r new → WantsMemoryFor Cause r
 takes_no_memory Cause s new e (events.Refused refusal.Memory touched) none step = absurd (never_permitted s e touched none step.1)

@@ -20,21 +20,21 @@ use Rattle.page_memory.proofs.Lists.{all-at}
 
 -- A seat, as a submission is accepted and as its command is released.
 
--- a seat with one receipt more
+-- a seat with one more receipt
 pub receives_in : {at old : SeatContents} {here log : List Entry} → at ≡ old → here ≡ log → (d : DraftContents) (result : Result TicketContents (Refused DraftContents))
     → is_ok result ≡ true → (receipts : List Receipt) (spare : ℕ) (known : List DraftContents) → receipts ≡ at.receipts ++ receipt (accepted here) d.q d.cid (asked_of d.request) None ∷ []
     → Receives log old d result (let new : SeatContents = record at { receipts = receipts; spare = spare; known = known } in new)
 receives_in same logs d (Ok ticket) ok receipts spare known is = rw (← same, ← logs, is) refl
 receives_in same logs d (Err r) ok receipts spare known is = absurd (true≢false (sym ok))
 
--- and where it is refused, the seat has none more
+-- and where it is refused, the seat has no more
 pub receives_none : {at old : SeatContents} (log : List Entry) → at ≡ old → (d : DraftContents) (result : Result TicketContents (Refused DraftContents))
     → is_ok result ≡ false → (receipts : List Receipt) (spare : ℕ) → receipts ≡ at.receipts
     → Receives log old d result (let new : SeatContents = record at { receipts = receipts; spare = spare } in new)
 receives_none log same d (Ok ticket) isnt receipts spare is = absurd (true≢false isnt)
 receives_none log same d (Err r) isnt receipts spare is = rw (← same, is) refl
 
--- a receipt's status is written in its place
+-- a receipt's status is written at its index
 length_settled_at : (i : Option ℕ) (status : Option Status) (receipts : List Receipt) → length (settled_at i status receipts) ≡ length receipts
 length_settled_at None status receipts = refl
 length_settled_at (Some i) status receipts = length-set receipts i _
@@ -60,7 +60,7 @@ pub settles_none : {A : Type 0} {old new : SeatContents} (world : State) (f : Fi
 settles_none world f (Ok done) isnt is = absurd (true≢false isnt)
 settles_none world f (Err r) isnt is = is
 
--- Receipts at the head of a list that have a status: searches begin behind them.
+-- Receipts at the head of a list that have a status: searches begin after them.
 
 pub settled_length : (n : ℕ) (receipts : List Receipt) → AreSettled n receipts → n ≤ length receipts
 settled_length zero receipts settled = omega arith
@@ -70,33 +70,33 @@ settled_length (suc n) (r ∷ receipts) settled = let below = settled_length n r
 add_suc : (n m : ℕ) → suc n + m ≡ suc (n + m)
 add_suc n m = omega arith
 
--- a receipt without a status is found behind those that have one
+-- a receipt without a status is found after those that have one
 found_from : (receipts : List Receipt) (i j : ℕ) → position_from is_without_status i receipts ≡ Some (i + j) → AreSettled j receipts
 found_from receipts i zero found = tt
 found_from [] i (suc j) found = absurd (grind arith)
-found_from (r ∷ receipts) i (suc j) found = go (is_none r.status) refl found (found_from receipts (i + 1) j)
+found_from (r ∷ receipts) i (suc j) found = by_status (is_none r.status) refl found (found_from receipts (i + 1) j)
   where
-    go : (b : Bool) → is_none r.status ≡ b → (if b then Some i else position_from is_without_status (i + 1) receipts) ≡ Some (i + suc j)
+    by_status : (b : Bool) → is_none r.status ≡ b → (if b then Some i else position_from is_without_status (i + 1) receipts) ≡ Some (i + suc j)
         → (position_from is_without_status (i + 1) receipts ≡ Some (i + 1 + j) → AreSettled j receipts) → AreSettled (suc j) (r ∷ receipts)
-    go true first found rest = absurd (grind arith)
-    go false other found rest = let same : i + suc j ≡ i + 1 + j = omega arith in (other, rest (found ∙ ap Some same))
+    by_status true first found rest = absurd (grind arith)
+    by_status false other found rest = let same : i + suc j ≡ i + 1 + j = omega arith in (other, rest (found ∙ ap Some same))
 
 pub settled_until : (receipts : List Receipt) (i : ℕ) → position is_without_status receipts ≡ Some i → AreSettled i receipts
 settled_until receipts i found = let same : i ≡ 0 + i = omega arith in found_from receipts 0 i (sym (position_from-zero is_without_status receipts) ∙ found ∙ ap Some same)
 
 none_from : (receipts : List Receipt) (i : ℕ) → position_from is_without_status i receipts ≡ None → AreSettled (length receipts) receipts
 none_from [] i none = tt
-none_from (r ∷ receipts) i none = go (is_none r.status) refl none (none_from receipts (i + 1))
+none_from (r ∷ receipts) i none = by_status (is_none r.status) refl none (none_from receipts (i + 1))
   where
-    go : (b : Bool) → is_none r.status ≡ b → (if b then Some i else position_from is_without_status (i + 1) receipts) ≡ None
+    by_status : (b : Bool) → is_none r.status ≡ b → (if b then Some i else position_from is_without_status (i + 1) receipts) ≡ None
         → (position_from is_without_status (i + 1) receipts ≡ None → AreSettled (length receipts) receipts) → AreSettled (suc (length receipts)) (r ∷ receipts)
-    go true first none rest = absurd (grind arith)
-    go false other none rest = (other, rest none)
+    by_status true first none rest = absurd (grind arith)
+    by_status false other none rest = (other, rest none)
 
 pub all_settled : (receipts : List Receipt) → position is_without_status receipts ≡ None → AreSettled (length receipts) receipts
 all_settled receipts none = none_from receipts 0 (sym (position_from-zero is_without_status receipts) ∙ none)
 
--- so many more behind those that are settled
+-- this many more after those that are settled
 pub settled_more : (n m : ℕ) (receipts : List Receipt) → AreSettled n receipts → AreSettled m (drop n receipts) → AreSettled (n + m) receipts
 settled_more zero m receipts are more = rw (add_zero m) more
   where
@@ -110,7 +110,7 @@ settled_appended zero receipts more are = tt
 settled_appended (suc n) [] more are = absurd are
 settled_appended (suc n) (r ∷ receipts) more are = (are.0, settled_appended n receipts more are.1)
 
--- what is written behind them leaves them
+-- what is written after them leaves them unchanged
 pub settled_set : (n i : ℕ) (receipts : List Receipt) (r : Receipt) → AreSettled n receipts → AreSettled n (slice_set receipts (n + i) r)
 settled_set zero i receipts r are = tt
 settled_set (suc n) i [] r are = absurd are
@@ -129,12 +129,12 @@ behind_from q cid i (suc n) (r ∷ receipts) are =
 
 shifted : {A : Type 0} (p : A → Bool) (k i : ℕ) (xs : List A) → position_from p (k + i) xs ≡ option_map (λ (j : ℕ). k + j) (position_from p i xs)
 shifted p k i [] = refl
-shifted p k i (x ∷ xs) = go (p x) (shifted p k (i + 1) xs)
+shifted p k i (x ∷ xs) = by_test (p x) (shifted p k (i + 1) xs)
   where
-    go : (b : Bool) → position_from p (k + (i + 1)) xs ≡ option_map (λ (j : ℕ). k + j) (position_from p (i + 1) xs)
+    by_test : (b : Bool) → position_from p (k + (i + 1)) xs ≡ option_map (λ (j : ℕ). k + j) (position_from p (i + 1) xs)
         → (if b then Some (k + i) else position_from p (k + i + 1) xs) ≡ option_map (λ (j : ℕ). k + j) (if b then Some i else position_from p (i + 1) xs)
-    go true rest = refl
-    go false rest = let same : k + i + 1 ≡ k + (i + 1) = omega arith in ap (λ (n : ℕ). position_from p n xs) same ∙ rest
+    by_test true rest = refl
+    by_test false rest = let same : k + i + 1 ≡ k + (i + 1) = omega arith in ap (λ (n : ℕ). position_from p n xs) same ∙ rest
 
 pub found_behind : (q cid n : ℕ) (receipts : List Receipt) → AreSettled n receipts → position (is_open_for q cid) receipts ≡ option_map (λ (i : ℕ). n + i) (position (is_open_for q cid) (drop n receipts))
 found_behind q cid n receipts are =
@@ -142,7 +142,7 @@ found_behind q cid n receipts are =
     position_from-zero (is_open_for q cid) receipts ∙ behind_from q cid 0 n receipts are ∙ ap (λ (k : ℕ). position_from (is_open_for q cid) k (drop n receipts)) same
     ∙ shifted (is_open_for q cid) n 0 (drop n receipts) ∙ ap (option_map (λ (i : ℕ). n + i)) (sym (position_from-zero (is_open_for q cid) (drop n receipts)))
 
--- what stands behind them, as a slice
+-- what is after them, as a slice
 pub tail_is : (n : ℕ) (receipts : List Receipt) → take (length receipts - n) (drop n receipts) ≡ drop n receipts
 tail_is n receipts = let left = length-drop n receipts in take_all (length receipts - n) (drop n receipts) (omega (arith, left))
 
@@ -161,18 +161,18 @@ any_behind q cid (suc n) (r ∷ receipts) are = rw (closed_is_another q cid r ar
 
 found_any : {A : Type 0} (p : A → Bool) (i : ℕ) (xs : List A) → is_some (position_from p i xs) ≡ list_any p xs
 found_any p i [] = refl
-found_any p i (x ∷ xs) = go (p x) (found_any p (i + 1) xs)
+found_any p i (x ∷ xs) = by_test (p x) (found_any p (i + 1) xs)
   where
-    go : (b : Bool) → is_some (position_from p (i + 1) xs) ≡ list_any p xs → is_some (if b then Some i else position_from p (i + 1) xs) ≡ (b || list_any p xs)
-    go true rest = refl
-    go false rest = rest
+    by_test : (b : Bool) → is_some (position_from p (i + 1) xs) ≡ list_any p xs → is_some (if b then Some i else position_from p (i + 1) xs) ≡ (b || list_any p xs)
+    by_test true rest = refl
+    by_test false rest = rest
 
 pub any_in_tail : (q cid n : ℕ) (receipts : List Receipt) → AreSettled n receipts → is_some (position (is_open_for q cid) (take (length receipts - n) (drop n receipts))) ≡ list_any (is_open_for q cid) receipts
 any_in_tail q cid n receipts are =
     ap (λ (xs : List Receipt). is_some (position (is_open_for q cid) xs)) (tail_is n receipts) ∙ ap is_some (position_from-zero (is_open_for q cid) (drop n receipts)) ∙ found_any (is_open_for q cid) 0 (drop n receipts)
     ∙ sym (any_behind q cid n receipts are)
 
--- Submissions that stand in receipts: at the next place of the log, for one seat and for all.
+-- Submissions that stand in receipts: at the next index of the log, for one seat and for all.
 
 -- Seats
 
@@ -186,11 +186,11 @@ same_itself : (seat : Option ℕ) → same_seat seat seat ≡ true
 same_itself None = refl
 same_itself (Some n) = eq-eqb n n refl
 
--- what stands at a place
+-- what is at an index
 pub here_at : (log : List Entry) (p : ℕ) (x : Entry) → slice_get log p ≡ Some x → x ≡ get_or log p x
 here_at log p x get = sym (get_or_from_slice_get log p x x get)
 
--- the first status from a place on is that of its entry, or else the first behind it
+-- the first status at or after an index is that of its entry, or else the first after it
 pub held_at : (q cid : ℕ) (log : List Entry) (i : ℕ) (x : Entry) → slice_get log i ≡ Some x → held q cid (drop i log) ≡ first_of (status_by q cid x.step x.answer) (held q cid (drop (i + 1) log))
 held_at q cid [] i x get = absurd (none-some x get)
 held_at q cid (y ∷ log) zero x get = rw (same_Some y x get) refl
@@ -207,13 +207,13 @@ no_end q cid what answer other = refl
 
 -- an entry whose step ends no command gives no status
 pub passed_over : (q cid : ℕ) (log : List Entry) (i : ℕ) → option_map (λ (e : Entry). may_end e.step) (slice_get log i) ≡ Some false → held q cid (drop i log) ≡ held q cid (drop (i + 1) log)
-passed_over q cid log i other = go (slice_get log i) refl other
+passed_over q cid log i other = by_entry (slice_get log i) refl other
   where
-    go : (o : Option Entry) → slice_get log i ≡ o → option_map (λ (e : Entry). may_end e.step) o ≡ Some false → held q cid (drop i log) ≡ held q cid (drop (i + 1) log)
-    go None at ends = absurd cc
-    go (Some e) at ends = held_at q cid log i e at ∙ ap (λ (o : Option Status). first_of o (held q cid (drop (i + 1) log))) (no_end q cid e.step e.answer cc)
+    by_entry : (o : Option Entry) → slice_get log i ≡ o → option_map (λ (e : Entry). may_end e.step) o ≡ Some false → held q cid (drop i log) ≡ held q cid (drop (i + 1) log)
+    by_entry None at ends = absurd cc
+    by_entry (Some e) at ends = held_at q cid log i e at ∙ ap (λ (o : Option Status). first_of o (held q cid (drop (i + 1) log))) (no_end q cid e.step e.answer cc)
 
--- One seat's place in the log: how many submissions came before, and how many of its own; those stand.
+-- One seat's position in the log: how many submissions came before, and how many of its own; those stand.
 pub record Passed (log : List Entry) (seats : List SeatContents) (seat : Option ℕ) (p number place : ℕ) : Type 0 where
   pub numbered : number ≡ accepted (take p log)
   pub placed : place ≡ accepted_of seat (take p log)
@@ -261,7 +261,7 @@ pass_none log seats seat p number place x less here isnt so_far =
       stand = below_more (λ q. (e : Entry) → slice_get log q ≡ Some e → is_accepted e ≡ true → same_seat e.seat seat ≡ true → stands log seats q e ≡ true) p so_far.stand at;
     }
 
--- a submission of the seat is at the seat's place
+-- a submission of the seat is at the seat's position
 pub place_of_own : (log : List Entry) (seats : List SeatContents) (seat : Option ℕ) (p number place : ℕ) (of : Option ℕ) → same_seat of seat ≡ true → Passed log seats seat p number place
     → place ≡ accepted_of of (take p log)
 place_of_own log seats seat p number place of same so_far =
@@ -286,18 +286,18 @@ known_here log seats p x here known so_far =
 pub stands_nowhere : (seat : Option ℕ) (place number q cid : ℕ) (asked : Option Asked) (told : Option Status) (seats : List SeatContents) → is_known seats seat ≡ false
     → list_any (has seat place number q cid asked told) seats ≡ false
 stands_nowhere seat place number q cid asked told [] none = refl
-stands_nowhere seat place number q cid asked told (s ∷ seats) none = go (same_seat (Some s.number) seat) refl (stands_nowhere seat place number q cid asked told seats)
+stands_nowhere seat place number q cid asked told (s ∷ seats) none = by_seat (same_seat (Some s.number) seat) refl (stands_nowhere seat place number q cid asked told seats)
   where
-    go : (b : Bool) → same_seat (Some s.number) seat ≡ b → (is_known seats seat ≡ false → list_any (has seat place number q cid asked told) seats ≡ false)
+    by_seat : (b : Bool) → same_seat (Some s.number) seat ≡ b → (is_known seats seat ≡ false → list_any (has seat place number q cid asked told) seats ≡ false)
         → list_any (has seat place number q cid asked told) (s ∷ seats) ≡ false
-    go true e later = let known : is_known (s ∷ seats) seat ≡ true = rw e refl in absurd (true≢false (sym known ∙ none))
-    go false e later = rw e (later (rw e at none))
+    by_seat true e later = let known : is_known (s ∷ seats) seat ≡ true = rw e refl in absurd (true≢false (sym known ∙ none))
+    by_seat false e later = rw e (later (rw e at none))
 
 pub unknown_here : (log : List Entry) (seats : List SeatContents) (p : ℕ) (x : Entry) → p < length log → x ≡ get_or log p x → is_accepted x ≡ true → is_known seats x.seat ≡ false
     → IsMissingAt log seats p
 unknown_here log seats p x less here accepts none = missing_here log seats p x less here accepts (stands_nowhere x.seat _ _ _ _ _ _ seats none)
 
--- The seats that were gone through: their submissions stand before a place, at which one is missing, unless that is the end of the log.
+-- The seats that were gone through: their submissions stand before an index, at which one is missing, unless that is the end of the log.
 pub record Searched (log : List Entry) (seats : List SeatContents) (i end : ℕ) : Type 0 where
   pub within : end ≤ length log
   pub known : AreKnown log seats end
@@ -329,17 +329,17 @@ search_less log seats i end p s here less stand missing so_far =
 some_seat : (seats : List SeatContents) (seat : Option ℕ) → is_known seats seat ≡ true
     → (k : ℕ) × (s : SeatContents) × (k < length seats) × (slice_get seats k ≡ Some s) × (same_seat (Some s.number) seat ≡ true)
 some_seat [] seat known = absurd (true≢false (sym known))
-some_seat (s ∷ seats) seat known = go (same_seat (Some s.number) seat) refl (some_seat seats seat)
+some_seat (s ∷ seats) seat known = by_seat (same_seat (Some s.number) seat) refl (some_seat seats seat)
   where
-    go : (b : Bool) → same_seat (Some s.number) seat ≡ b
+    by_seat : (b : Bool) → same_seat (Some s.number) seat ≡ b
         → (is_known seats seat ≡ true → (k : ℕ) × (t : SeatContents) × (k < length seats) × (slice_get seats k ≡ Some t) × (same_seat (Some t.number) seat ≡ true))
         → (k : ℕ) × (t : SeatContents) × (k < length (s ∷ seats)) × (slice_get (s ∷ seats) k ≡ Some t) × (same_seat (Some t.number) seat ≡ true)
-    go true e later = (zero, s, omega arith, refl, e)
-    go false e later =
+    by_seat true e later = (zero, s, omega arith, refl, e)
+    by_seat false e later =
         let (k, t, less, get, same) = later (rw e at known) in
         (suc k, t, omega (arith, less), get, same)
 
--- where all seats were gone through, every submission before the place stands
+-- where all seats were gone through, every submission before the index stands
 pub all_before : (log : List Entry) (seats : List SeatContents) (i end : ℕ) → length seats ≤ i → Searched log seats i end → StandBefore log seats end
 all_before log seats i end all so_far p below e get is =
     let (k, s, less, there, same) = some_seat seats e.seat (so_far.known p below e get is) in
@@ -372,38 +372,38 @@ both_true false b e = cc
 
 length_without : (n : ℕ) (xs : List ℕ) → length (filter (λ x. not (x == n)) xs) + times n xs ≡ length xs
 length_without n [] = refl
-length_without n (x ∷ xs) = go (x == n) (length_without n xs)
+length_without n (x ∷ xs) = by_number (x == n) (length_without n xs)
   where
-    go : (b : Bool) → length (filter (λ x. not (x == n)) xs) + times n xs ≡ length xs
+    by_number : (b : Bool) → length (filter (λ x. not (x == n)) xs) + times n xs ≡ length xs
         → length (if not b then x ∷ filter (λ x. not (x == n)) xs else filter (λ x. not (x == n)) xs) + (if b then 1 + times n xs else times n xs) ≡ suc (length xs)
-    go true e = omega arith
-    go false e = omega arith
+    by_number true e = omega arith
+    by_number false e = omega arith
 
 -- leaving one number out leaves the others
 times_without : (n k : ℕ) (xs : List ℕ) → k < n → times k (filter (λ x. not (x == n)) xs) ≡ times k xs
-times_without n k xs less = go (k == n) refl
+times_without n k xs less = by_number (k == n) refl
   where
-    go : (b : Bool) → (k == n) ≡ b → times k (filter (λ x. not (x == n)) xs) ≡ times k xs
-    go true e = let same : k ≡ n = eqb-true k n e in absurd (omega arith)
-    go false e = let w : times k (filter (λ x. not (x == n)) xs) ≡ times k xs = rw e at (times-filter k (λ x. not (x == n)) xs) in w
+    by_number : (b : Bool) → (k == n) ≡ b → times k (filter (λ x. not (x == n)) xs) ≡ times k xs
+    by_number true e = let same : k ≡ n = eqb-true k n e in absurd (omega arith)
+    by_number false e = let w : times k (filter (λ x. not (x == n)) xs) ≡ times k xs = rw e at (times-filter k (λ x. not (x == n)) xs) in w
 
--- Each number below a count is the count before some place that counts
+-- Each number below a count is the count before some index that counts
 
 abbrev pub PlaceOf : {X : Type 0} → (X → Bool) → List X → ℕ → Type 0
 PlaceOf {X = X} test xs k = (p : ℕ) × (x : X) × (p < length xs) × (slice_get xs p ≡ Some x) × (test x ≡ true) × (count_by test (take p xs) ≡ k)
 
 place_before : {X : Type 0} (test : X → Bool) (xs : List X) (d : X) (n k : ℕ) → n ≤ length xs → k < count_by test (take n xs) → PlaceOf test xs k
 place_before test xs d zero k within less = absurd (omega arith)
-place_before test xs d (suc n) k within less = go (test (get_or xs n d)) refl (λ few. place_before test xs d n k (omega arith) few)
+place_before test xs d (suc n) k within less = by_test (test (get_or xs n d)) refl (λ few. place_before test xs d n k (omega arith) few)
   where
     next : count_by test (take (suc n) xs) ≡ count_by test (take (n + 1) xs)
     next = let one_more : suc n ≡ n + 1 = omega arith in ap (λ m. count_by test (take m xs)) one_more
 
-    go : (b : Bool) → test (get_or xs n d) ≡ b → (k < count_by test (take n xs) → PlaceOf test xs k) → PlaceOf test xs k
-    go false e earlier =
+    by_test : (b : Bool) → test (get_or xs n d) ≡ b → (k < count_by test (take n xs) → PlaceOf test xs k) → PlaceOf test xs k
+    by_test false e earlier =
         let same : count_by test (take (suc n) xs) ≡ count_by test (take n xs) = next ∙ count_by_more_no test xs n d (omega arith) e in
         earlier (omega (arith, same))
-    go true e earlier = last (k == count_by test (take n xs)) refl
+    by_test true e earlier = last (k == count_by test (take n xs)) refl
       where
         more : count_by test (take (suc n) xs) ≡ count_by test (take n xs) + 1
         more = next ∙ count_by_more_yes test xs n d (omega arith) e
@@ -450,14 +450,14 @@ times_at number q cid asked told (r ∷ receipts) (suc place) it =
 times_in : (seat : Option ℕ) (place number q cid : ℕ) (asked : Option Asked) (told : Option Status) (seats : List SeatContents)
     → list_any (has seat place number q cid asked told) seats ≡ true → 0 < times number (all_numbers seats)
 times_in seat place number q cid asked told [] it = absurd (true≢false (sym it))
-times_in seat place number q cid asked told (s ∷ seats) it = go (has seat place number q cid asked told s) refl (times_in seat place number q cid asked told seats)
+times_in seat place number q cid asked told (s ∷ seats) it = by_receipt (has seat place number q cid asked told s) refl (times_in seat place number q cid asked told seats)
   where
-    go : (b : Bool) → has seat place number q cid asked told s ≡ b → (list_any (has seat place number q cid asked told) seats ≡ true → 0 < times number (all_numbers seats))
+    by_receipt : (b : Bool) → has seat place number q cid asked told s ≡ b → (list_any (has seat place number q cid asked told) seats ≡ true → 0 < times number (all_numbers seats))
         → 0 < times number (all_numbers (s ∷ seats))
-    go true e later =
+    by_receipt true e later =
         let both = both_true (same_seat (Some s.number) seat) (is_receipt_of number q cid asked told (slice_get s.receipts place)) e in
         omega (arith, times-append number (numbers_of s.receipts) (all_numbers seats), times_at number q cid asked told s.receipts place both.1)
-    go false e later =
+    by_receipt false e later =
         omega (arith, times-append number (numbers_of s.receipts) (all_numbers seats), later (rw e at it))
 
 -- where all submissions of a log stand, each number below their count is that of a receipt

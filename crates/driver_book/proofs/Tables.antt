@@ -30,7 +30,7 @@ shown_end pieces drafts step.Reset reply.Accepted = refl
 shown_end pieces drafts step.Reset a = refl
 shown_end pieces drafts s a = refl
 
--- what is shown of a kept entry at a place
+-- what is shown of a kept entry at an index
 kept_at : {X : Type 0} (f : Kept → X) (kept : List Kept) (i : ℕ) (x : Kept) → i < length kept → x ≡ get_or kept i x → slice_get (map f kept) i ≡ Some (f x)
 kept_at f kept i x less here =
     let at : slice_get kept i ≡ Some x = slice_get-get_or kept i x less ∙ ap (λ (k : Kept). Some k) (sym here) in
@@ -70,11 +70,11 @@ given q cid what answer = refl
 
 held_back : (log : List Entry) (p : ℕ) (end : EndAt) (q cid : ℕ) → option_map end_of (slice_get log p) ≡ Some end
     → held q cid (drop p log) ≡ first_of (given_by q cid end) (held q cid (drop (p + 1) log))
-held_back log p end q cid is = go (slice_get log p) refl is
+held_back log p end q cid is = by_entry (slice_get log p) refl is
   where
-    go : (o : Option Entry) → slice_get log p ≡ o → option_map end_of o ≡ Some end → held q cid (drop p log) ≡ first_of (given_by q cid end) (held q cid (drop (p + 1) log))
-    go None at ends = absurd cc
-    go (Some e) at ends =
+    by_entry : (o : Option Entry) → slice_get log p ≡ o → option_map end_of o ≡ Some end → held q cid (drop p log) ≡ first_of (given_by q cid end) (held q cid (drop (p + 1) log))
+    by_entry None at ends = absurd cc
+    by_entry (Some e) at ends =
         let same : end_of e ≡ end = same_Some (end_of e) end ends in
         held_at q cid log p e at ∙ ap (λ (o : Option Status). first_of o (held q cid (drop (p + 1) log))) (given q cid e.step e.answer ∙ ap (given_by q cid) same)
 
@@ -91,7 +91,7 @@ from_set p (x ∷ xs) zero e here each (suc j) = each (suc j)
 from_set p (x ∷ xs) (suc i) e here each zero = each zero
 from_set p (x ∷ xs) (suc i) e here each (suc j) = from_set p xs i e here (λ k. each (suc k)) j
 
--- an end before another comes first, wherever it stands
+-- an end before another comes first, on either side
 first_left : (p : ℕ) (e : End) (o : Option End) → e.place ≡ p → IsFrom (p + 1) o → earlier (Some e) o ≡ Some e
 first_left p e None at from = refl
 first_left p e (Some f) at from = let less : nat_lt e.place f.place ≡ true = lt-ltb e.place f.place (omega (arith, at, from)) in rw less refl
@@ -103,30 +103,30 @@ first_right p e (Some f) at from = let far : nat_lt f.place e.place ≡ false = 
 from_earlier : (p : ℕ) (a b : Option End) → IsFrom p a → IsFrom p b → IsFrom p (earlier a b)
 from_earlier p None b of_a of_b = of_b
 from_earlier p (Some a) None of_a of_b = of_a
-from_earlier p (Some a) (Some b) of_a of_b = go (nat_lt a.place b.place)
+from_earlier p (Some a) (Some b) of_a of_b = by_order (nat_lt a.place b.place)
   where
-    go : (t : Bool) → IsFrom p (if t then Some a else Some b)
-    go true = of_a
-    go false = of_b
+    by_order : (t : Bool) → IsFrom p (if t then Some a else Some b)
+    by_order true = of_a
+    by_order false = of_b
 
 abbrev status_with : Option End → Option End → Option End → Option Status
 status_with a b c = option_map (λ (e : End). e.status) (earlier a (earlier b c))
 
--- The place of a command
+-- The index of a command
 
 apart : (a b w c d : ℕ) → a < b → c < w → a * w + c < b * w + d
 apart a b w c d less in_row = let far : w * (a + 1) ≤ w * b = mul-le-mul_left w (omega arith) in omega (arith, far)
 
 places_differ : (a b w c d : ℕ) → c < w → d < w → ((a == b) && (c == d)) ≡ false → b * w + d ≡ a * w + c → ⊥
-places_differ a b w c d in_row in_row2 other same = go (a == b) refl (c == d) refl other
+places_differ a b w c d in_row in_row2 other same = by_sameness (a == b) refl (c == d) refl other
   where
-    go : (s : Bool) → (a == b) ≡ s → (t : Bool) → (c == d) ≡ t → (s && t) ≡ false → ⊥
-    go true e true f both = true≢false both
-    go true e false f both =
+    by_sameness : (s : Bool) → (a == b) ≡ s → (t : Bool) → (c == d) ≡ t → (s && t) ≡ false → ⊥
+    by_sameness true e true f both = true≢false both
+    by_sameness true e false f both =
         let rows : a ≡ b = eqb-true a b e in
         let products : a * w ≡ b * w = ap (λ (n : ℕ). n * w) rows in
         eqb-false c d f (omega (arith, same, products))
-    go false e t f both =
+    by_sameness false e t f both =
         let rows : a ≡ b → ⊥ = eqb-false a b e in
         let one : a < b → ⊥ = λ less. let l = apart a b w c d less in_row in omega (arith, l, same) in
         let two : b < a → ⊥ = λ less. let l = apart b a w d c less in_row2 in omega (arith, l, same) in
@@ -135,36 +135,36 @@ places_differ a b w c d in_row in_row2 other same = go (a == b) refl (c == d) re
 single_at : (t : EndTable) (of ended : ℕ) (e : End) (q cid : ℕ) → length t.single ≡ length t.retired * t.identifiers → q < length t.retired → cid < t.identifiers
     → get_or (with_single t of ended e) (q * t.identifiers + cid) None ≡ (if (of == q) && (ended == cid) then Some e else get_or t.single (q * t.identifiers + cid) None)
 single_at t of ended e q cid size in_rows in_row =
-    go (nat_lt of (length t.retired) && nat_lt ended t.identifiers) refl ((of == q) && (ended == cid)) refl
+    by_cell (nat_lt of (length t.retired) && nat_lt ended t.identifiers) refl ((of == q) && (ended == cid)) refl
   where
-    go : (b : Bool) → (nat_lt of (length t.retired) && nat_lt ended t.identifiers) ≡ b → (s : Bool) → ((of == q) && (ended == cid)) ≡ s
+    by_cell : (b : Bool) → (nat_lt of (length t.retired) && nat_lt ended t.identifiers) ≡ b → (s : Bool) → ((of == q) && (ended == cid)) ≡ s
         → get_or (if b then slice_set t.single (of * t.identifiers + ended) (Some e) else t.single) (q * t.identifiers + cid) None
         ≡ (if s then Some e else get_or t.single (q * t.identifiers + cid) None)
-    go true inside true same =
+    by_cell true inside true same =
         let both = both_true (of == q) (ended == cid) same in
         let rows : of * t.identifiers ≡ q * t.identifiers = ap (λ (n : ℕ). n * t.identifiers) (eqb-true of q both.0) in
         let place : of * t.identifiers + ended ≡ q * t.identifiers + cid = omega (arith, rows, eqb-true ended cid both.1) in
         let within : q * t.identifiers + cid < t.identifiers * length t.retired = mul-add-lt q t.identifiers cid (length t.retired) in_rows in_row in
         ap (λ (n : ℕ). get_or (slice_set t.single n (Some e)) (q * t.identifiers + cid) None) place
         ∙ get_or-set_same t.single (q * t.identifiers + cid) (Some e) None (omega (arith, within, size))
-    go true inside false other =
+    by_cell true inside false other =
         let both = both_true (nat_lt of (length t.retired)) (nat_lt ended t.identifiers) inside in
         get_or-set_other t.single (of * t.identifiers + ended) (q * t.identifiers + cid) (Some e) None
         (places_differ of q t.identifiers ended cid (ltb-true ended t.identifiers both.1) in_row other)
-    go false outside true same =
+    by_cell false outside true same =
         let both = both_true (of == q) (ended == cid) same in
         let row : nat_lt of (length t.retired) ≡ true = lt-ltb of (length t.retired) (omega (arith, in_rows, eqb-true of q both.0)) in
         let cell : nat_lt ended t.identifiers ≡ true = lt-ltb ended t.identifiers (omega (arith, in_row, eqb-true ended cid both.1)) in
         let all : (nat_lt of (length t.retired) && nat_lt ended t.identifiers) ≡ true = rw (row, cell) refl in
         absurd (true≢false (sym all ∙ outside))
-    go false outside false other = refl
+    by_cell false outside false other = refl
 
 retired_at : (xs : List (Option End)) (of : ℕ) (e : End) (q : ℕ) → q < length xs → get_or (slice_set xs of (Some e)) q None ≡ (if of == q then Some e else get_or xs q None)
-retired_at xs of e q within = go (of == q) refl
+retired_at xs of e q within = by_queue (of == q) refl
   where
-    go : (s : Bool) → (of == q) ≡ s → get_or (slice_set xs of (Some e)) q None ≡ (if s then Some e else get_or xs q None)
-    go true same = let at : of ≡ q = eqb-true of q same in ap (λ (n : ℕ). get_or (slice_set xs n (Some e)) q None) at ∙ get_or-set_same xs q (Some e) None within
-    go false other = get_or-set_other xs of q (Some e) None (λ same. eqb-false of q other (sym same))
+    by_queue : (s : Bool) → (of == q) ≡ s → get_or (slice_set xs of (Some e)) q None ≡ (if s then Some e else get_or xs q None)
+    by_queue true same = let at : of ≡ q = eqb-true of q same in ap (λ (n : ℕ). get_or (slice_set xs n (Some e)) q None) at ∙ get_or-set_same xs q (Some e) None within
+    by_queue false other = get_or-set_other xs of q (Some e) None (λ same. eqb-false of q other (sym same))
 
 -- One entry back
 
@@ -196,7 +196,7 @@ tells_one t new log p of ended status is told size single retired reset identifi
     let here : IsFrom p (Some e) = omega arith in
     tells_back t new log p (One of ended status) is told (ap length retired) identifiers
     (λ i. rw single (from_single e here i)) (λ q. rw retired (from_less p (get_or t.retired q None) (told.retired_from q))) (rw reset (from_less p t.reset told.reset_from))
-    (λ q cid row cell. rw (single, retired, reset, identifiers, single_at t of ended e q cid size row cell) (go q cid e refl ((of == q) && (ended == cid))))
+    (λ q cid row cell. rw (single, retired, reset, identifiers, single_at t of ended e q cid size row cell) (by_command q cid e refl ((of == q) && (ended == cid))))
   where
     from_single : (e : End) → IsFrom p (Some e) → (i : ℕ) → IsFrom p (get_or (with_single t of ended e) i None)
     from_single e here i = choose (nat_lt of (length t.retired) && nat_lt ended t.identifiers)
@@ -208,13 +208,13 @@ tells_one t new log p of ended status is told size single retired reset identifi
         choose true = from_set p t.single (of * t.identifiers + ended) (Some e) here each i
         choose false = each i
 
-    go : (q cid : ℕ) (e : End) → e ≡ (let f : End = record { place = p; status = status } in f) → (s : Bool)
+    by_command : (q cid : ℕ) (e : End) → e ≡ (let f : End = record { place = p; status = status } in f) → (s : Bool)
         → status_with (if s then Some e else get_or t.single (q * t.identifiers + cid) None) (get_or t.retired q None) t.reset
         ≡ first_of (if s then Some status else None) (status_in t q cid)
-    go q cid e same true =
+    by_command q cid e same true =
         rw (first_left p e (earlier (get_or t.retired q None) t.reset) (ap (λ (f : End). f.place) same) (from_earlier (p + 1) (get_or t.retired q None) t.reset (told.retired_from q) told.reset_from))
         (ap (λ (f : End). Some f.status) same)
-    go q cid e same false = refl
+    by_command q cid e same false = refl
 
 pub tells_queue : (t new : EndTable) (log : List Entry) (p of : ℕ) (e : End) → option_map end_of (slice_get log p) ≡ Some (Queue of) → Tells t log (p + 1)
     → e ≡ (let f : End = record { place = p; status = ABORTED_SQ_DELETION } in f) → new.single ≡ t.single
@@ -225,15 +225,15 @@ tells_queue t new log p of e is told same single retired reset identifiers =
     let each : (q : ℕ) → IsFrom p (get_or t.retired q None) = λ q. from_less p (get_or t.retired q None) (told.retired_from q) in
     tells_back t new log p (Queue of) is told (ap length retired ∙ length-set t.retired of (Some e)) identifiers
     (λ i. rw single (from_less p (get_or t.single i None) (told.single_from i))) (λ q. rw retired (from_set p t.retired of (Some e) here each q)) (rw reset (from_less p t.reset told.reset_from))
-    (λ q cid row cell. rw (single, retired, reset, identifiers, retired_at t.retired of e q row) (go q cid place (of == q)))
+    (λ q cid row cell. rw (single, retired, reset, identifiers, retired_at t.retired of e q row) (by_queue q cid place (of == q)))
   where
-    go : (q cid : ℕ) → e.place ≡ p → (s : Bool)
+    by_queue : (q cid : ℕ) → e.place ≡ p → (s : Bool)
         → status_with (get_or t.single (q * t.identifiers + cid) None) (if s then Some e else get_or t.retired q None) t.reset
         ≡ first_of (if s then Some ABORTED_SQ_DELETION else None) (status_in t q cid)
-    go q cid place true =
+    by_queue q cid place true =
         rw (first_left p e t.reset place told.reset_from, first_right p e (get_or t.single (q * t.identifiers + cid) None) place (told.single_from (q * t.identifiers + cid)))
         (ap (λ (f : End). Some f.status) same)
-    go q cid place false = refl
+    by_queue q cid place false = refl
 
 pub tells_all : (t new : EndTable) (log : List Entry) (p : ℕ) (e : End) → option_map end_of (slice_get log p) ≡ Some All → Tells t log (p + 1)
     → e ≡ (let f : End = record { place = p; status = ABORTED_SQ_DELETION } in f) → new.single ≡ t.single
@@ -249,7 +249,7 @@ tells_all t new log p e is told same single retired reset identifiers =
 
 -- Submissions
 
--- the submission at a place
+-- the submission at an index
 pub record IsMade (log : List Entry) (p : ℕ) (s : Submission) : Type 0 where
   pub entry : Entry
   pub there : slice_get log p ≡ Some entry
@@ -275,33 +275,33 @@ made log p e seat (step.Submit q cid) reply.Accepted draft s at of asks tells dr
 made log p e seat what answer draft s at of asks tells drafts is = absurd cc
 
 pub is_made : (log : List Entry) (p : ℕ) (s : Submission) → option_map submission_of (slice_get log p) ≡ Some (Some s) → IsMade log p s
-is_made log p s is = go (slice_get log p) refl is
+is_made log p s is = by_entry (slice_get log p) refl is
   where
-    go : (o : Option Entry) → slice_get log p ≡ o → option_map submission_of o ≡ Some (Some s) → IsMade log p s
-    go None at none = absurd cc
-    go (Some e) at some = made log p e e.seat e.step e.answer e.draft s at refl refl refl refl (same_Some (submission_of e) (Some s) some)
+    by_entry : (o : Option Entry) → slice_get log p ≡ o → option_map submission_of o ≡ Some (Some s) → IsMade log p s
+    by_entry None at none = absurd cc
+    by_entry (Some e) at some = made log p e e.seat e.step e.answer e.draft s at refl refl refl refl (same_Some (submission_of e) (Some s) some)
 
 unmade : (seat : Option ℕ) (what : Step) (answer : Reply) (draft : Option LoggedDraft) → submitted_by seat what answer draft ≡ None → is_submission what answer ≡ false
 unmade seat (step.Submit q cid) reply.Accepted draft none = absurd cc
 unmade seat what answer draft none = refl
 
--- no submission stands at a place
+-- no submission is at an index
 pub record IsNone (log : List Entry) (p : ℕ) : Type 0 where
   pub entry : Entry
   pub there : slice_get log p ≡ Some entry
   pub accepts : is_accepted entry ≡ false
 
 pub is_none_made : (log : List Entry) (p : ℕ) → option_map submission_of (slice_get log p) ≡ Some None → IsNone log p
-is_none_made log p is = go (slice_get log p) refl is
+is_none_made log p is = by_entry (slice_get log p) refl is
   where
-    go : (o : Option Entry) → slice_get log p ≡ o → option_map submission_of o ≡ Some None → IsNone log p
-    go None at none = absurd cc
-    go (Some e) at some = record { entry = e; there = at; accepts = unmade e.seat e.step e.answer e.draft (same_Some (submission_of e) None some) }
+    by_entry : (o : Option Entry) → slice_get log p ≡ o → option_map submission_of o ≡ Some None → IsNone log p
+    by_entry None at none = absurd cc
+    by_entry (Some e) at some = record { entry = e; there = at; accepts = unmade e.seat e.step e.answer e.draft (same_Some (submission_of e) None some) }
 
 -- Counts
 
 count_next : {X : Type 0} (f : X → Bool) (xs : List X) (p : ℕ) (x : X) → slice_get xs p ≡ Some x → count_by f (take (p + 1) xs) ≡ count_by f (take p xs) + cond (f x) 1 0
-count_next {X = X} f xs p x at = go (f x) refl
+count_next {X = X} f xs p x at = by_test (f x) refl
   where
     less : p < length xs
     less = slice_get_within xs p x at
@@ -309,9 +309,9 @@ count_next {X = X} f xs p x at = go (f x) refl
     same : get_or xs p x ≡ x
     same = get_or_from_slice_get xs p x x at
 
-    go : (b : Bool) → f x ≡ b → count_by f (take (p + 1) xs) ≡ count_by f (take p xs) + cond b 1 0
-    go true is = count_by_more_yes f xs p x less (ap f same ∙ is)
-    go false is = count_by_more_no f xs p x less (ap f same ∙ is) ∙ sym (add-zero (count_by f (take p xs)))
+    by_test : (b : Bool) → f x ≡ b → count_by f (take (p + 1) xs) ≡ count_by f (take p xs) + cond b 1 0
+    by_test true is = count_by_more_yes f xs p x less (ap f same ∙ is)
+    by_test false is = count_by_more_no f xs p x less (ap f same ∙ is) ∙ sym (add-zero (count_by f (take p xs)))
 
 -- what was counted is no more than the entries
 pub count_few : {X : Type 0} (f : X → Bool) (xs : List X) (p : ℕ) → count_by f (take p xs) ≤ p
@@ -319,11 +319,11 @@ count_few f xs p = omega (arith, count_by-le-length f (take p xs), length-take p
 
 count_kept : (counts : List ℕ) (seat : Option ℕ) (n k : ℕ) → k < length counts → get_or (with_count counts seat n) k 0 ≡ (if same_seat seat (Some k) then n else get_or counts k 0)
 count_kept counts None n k within = refl
-count_kept counts (Some j) n k within = go (j == k) refl
+count_kept counts (Some j) n k within = by_seat (j == k) refl
   where
-    go : (s : Bool) → (j == k) ≡ s → get_or (slice_set counts j n) k 0 ≡ (if s then n else get_or counts k 0)
-    go true same = let at : j ≡ k = eqb-true j k same in ap (λ (i : ℕ). get_or (slice_set counts i n) k 0) at ∙ get_or-set_same counts k n 0 within
-    go false other = get_or-set_other counts j k n 0 (λ same. eqb-false j k other (sym same))
+    by_seat : (s : Bool) → (j == k) ≡ s → get_or (slice_set counts j n) k 0 ≡ (if s then n else get_or counts k 0)
+    by_seat true same = let at : j ≡ k = eqb-true j k same in ap (λ (i : ℕ). get_or (slice_set counts i n) k 0) at ∙ get_or-set_same counts k n 0 within
+    by_seat false other = get_or-set_other counts j k n 0 (λ same. eqb-false j k other (sym same))
 
 count_own : (counts : List ℕ) (seat : Option ℕ) (k : ℕ) → same_seat seat (Some k) ≡ true → count_of counts seat ≡ get_or counts k 0
 count_own counts None k same = absurd (true≢false (sym same))
@@ -333,7 +333,7 @@ pub length_counts : (counts : List ℕ) (seat : Option ℕ) (n : ℕ) → length
 length_counts counts None n = refl
 length_counts counts (Some k) n = length-set counts k n
 
--- the counts of a seat's submissions, at the next place
+-- the counts of a seat's submissions, at the next index
 of_next : (log : List Entry) (p k : ℕ) (s : Submission) → IsMade log p s → accepted_of (Some k) (take (p + 1) log) ≡ accepted_of (Some k) (take p log) + cond (same_seat s.seat (Some k)) 1 0
 of_next log p k s m =
     let own : (is_accepted m.entry && same_seat m.entry.seat (Some k)) ≡ same_seat s.seat (Some k) = rw (m.accepts, m.seat) refl in
@@ -348,13 +348,13 @@ counted_on log p number count counts s m so_far is = record {
   all = omega (arith, so_far.all, all_next log p s m);
   each = λ k less.
       let within : k < length counts = omega (arith, less, length_counts counts s.seat count) in
-      count_kept counts s.seat count k within ∙ go k (same_seat s.seat (Some k)) refl (so_far.each k within) ∙ sym (of_next log p k s m);
+      count_kept counts s.seat count k within ∙ by_seat k (same_seat s.seat (Some k)) refl (so_far.each k within) ∙ sym (of_next log p k s m);
 }
   where
-    go : (k : ℕ) (b : Bool) → same_seat s.seat (Some k) ≡ b → get_or counts k 0 ≡ accepted_of (Some k) (take p log)
+    by_seat : (k : ℕ) (b : Bool) → same_seat s.seat (Some k) ≡ b → get_or counts k 0 ≡ accepted_of (Some k) (take p log)
         → (if b then count else get_or counts k 0) ≡ accepted_of (Some k) (take p log) + cond b 1 0
-    go k true own here = omega (arith, is, count_own counts s.seat k own, here)
-    go k false other here = here ∙ sym (add-zero (accepted_of (Some k) (take p log)))
+    by_seat k true own here = omega (arith, is, count_own counts s.seat k own, here)
+    by_seat k false other here = here ∙ sym (add-zero (accepted_of (Some k) (take p log)))
 
 pub counted_back : (log : List Entry) (p number before count : ℕ) (counts : List ℕ) (s : Submission) → IsMade log p s → AreCounted number counts log (p + 1) → number ≡ before + 1 → count ≡ count_of counts s.seat - 1
     → AreCounted before (with_count counts s.seat count) log p
@@ -362,15 +362,15 @@ counted_back log p number before count counts s m so_far less_one is = record {
   all = omega (arith, so_far.all, less_one, all_next log p s m);
   each = λ k less.
       let within : k < length counts = omega (arith, less, length_counts counts s.seat count) in
-      count_kept counts s.seat count k within ∙ go k (same_seat s.seat (Some k)) refl (so_far.each k within ∙ of_next log p k s m);
+      count_kept counts s.seat count k within ∙ by_seat k (same_seat s.seat (Some k)) refl (so_far.each k within ∙ of_next log p k s m);
 }
   where
-    go : (k : ℕ) (b : Bool) → same_seat s.seat (Some k) ≡ b → get_or counts k 0 ≡ accepted_of (Some k) (take p log) + cond b 1 0
+    by_seat : (k : ℕ) (b : Bool) → same_seat s.seat (Some k) ≡ b → get_or counts k 0 ≡ accepted_of (Some k) (take p log) + cond b 1 0
         → (if b then count else get_or counts k 0) ≡ accepted_of (Some k) (take p log)
-    go k true own here = omega (arith, is, count_own counts s.seat k own, here)
-    go k false other here = here ∙ add-zero (accepted_of (Some k) (take p log))
+    by_seat k true own here = omega (arith, is, count_own counts s.seat k own, here)
+    by_seat k false other here = here ∙ add-zero (accepted_of (Some k) (take p log))
 
--- where no submission stands, nothing is counted
+-- where there is no submission, nothing is counted
 same_next : (log : List Entry) (p : ℕ) (seat : Option ℕ) → IsNone log p → accepted_of seat (take (p + 1) log) ≡ accepted_of seat (take p log)
 same_next log p seat m =
     let none : (is_accepted m.entry && same_seat m.entry.seat seat) ≡ false = rw m.accepts refl in
@@ -388,11 +388,11 @@ uncounted_back log p number counts m so_far = record { all = so_far.all ∙ none
 
 pub counted_few : (log : List Entry) (p number : ℕ) (counts : List ℕ) (seat : Option ℕ) → AreCounted number counts log p → count_of counts seat ≤ p
 counted_few log p number counts None so_far = omega arith
-counted_few log p number counts (Some k) so_far = go (nat_lt k (length counts)) refl
+counted_few log p number counts (Some k) so_far = by_presence (nat_lt k (length counts)) refl
   where
-    go : (b : Bool) → nat_lt k (length counts) ≡ b → get_or counts k 0 ≤ p
-    go true within = omega (arith, so_far.each k (ltb-true k (length counts) within), count_few (λ e. is_accepted e && same_seat e.seat (Some k)) log p)
-    go false past = let none : get_or counts k 0 ≡ 0 = get_or_past counts k 0 (ltb-false k (length counts) past) in omega (arith, none)
+    by_presence : (b : Bool) → nat_lt k (length counts) ≡ b → get_or counts k 0 ≤ p
+    by_presence true within = omega (arith, so_far.each k (ltb-true k (length counts) within), count_few (λ e. is_accepted e && same_seat e.seat (Some k)) log p)
+    by_presence false past = let none : get_or counts k 0 ≡ 0 = get_or_past counts k 0 (ltb-false k (length counts) past) in omega (arith, none)
 
 pub counted_first : (counts : List ℕ) (log : List Entry) → ((k : ℕ) → get_or counts k 0 ≡ 0) → AreCounted 0 counts log 0
 counted_first counts log none = record { all = refl; each = λ k within. none k }
@@ -426,34 +426,34 @@ within_at t new log queues identifiers within k before e get is =
     let both = within k before e get is in
     (omega (arith, both.0, queues), omega (arith, both.1, identifiers))
 
--- Whether the submission at a place stands in the receipts
+-- Whether the submission at an index stands in the receipts
 
 not_known : (seats : List SeatContents) (n k : ℕ) → AreBelow seats n → n ≤ k → is_known seats (Some k) ≡ false
 not_known [] n k below far = refl
 not_known (s ∷ seats) n k below far =
     let here : s.number < n = below 0 s refl in
-    go (s.number == k) refl here (not_known seats n k (λ j t at. below (suc j) t at) far)
+    by_number (s.number == k) refl here (not_known seats n k (λ j t at. below (suc j) t at) far)
   where
-    go : (b : Bool) → (s.number == k) ≡ b → s.number < n → is_known seats (Some k) ≡ false → is_known (s ∷ seats) (Some k) ≡ false
-    go true same here rest = let at : s.number ≡ k = eqb-true s.number k same in absurd (omega arith)
-    go false other here rest = rw other rest
+    by_number : (b : Bool) → (s.number == k) ≡ b → s.number < n → is_known seats (Some k) ≡ false → is_known (s ∷ seats) (Some k) ≡ false
+    by_number true same here rest = let at : s.number ≡ k = eqb-true s.number k same in absurd (omega arith)
+    by_number false other here rest = rw other rest
 
 no_seat : (seats : List SeatContents) → is_known seats None ≡ false
 no_seat [] = refl
 no_seat (s ∷ seats) = no_seat seats
 
--- the count of a seat tells the same as its place, if there is such a seat
+-- the count of a seat tells the same as its position, if there is such a seat
 same_place : (log : List Entry) (p number : ℕ) (counts : List ℕ) (seats : List SeatContents) (seat : Option ℕ) (n q cid : ℕ) (asked : Option Asked) (told : Option Status) → AreCounted number counts log p
     → AreBelow seats (length counts)
     → list_any (has seat (accepted_of seat (take p log)) n q cid asked told) seats ≡ list_any (has seat (count_of counts seat) n q cid asked told) seats
 same_place log p number counts seats None n q cid asked told counted below =
     stands_nowhere None (accepted_of None (take p log)) n q cid asked told seats (no_seat seats) ∙ sym (stands_nowhere None (count_of counts None) n q cid asked told seats (no_seat seats))
-same_place log p number counts seats (Some k) n q cid asked told counted below = go (nat_lt k (length counts)) refl
+same_place log p number counts seats (Some k) n q cid asked told counted below = by_presence (nat_lt k (length counts)) refl
   where
-    go : (b : Bool) → nat_lt k (length counts) ≡ b
+    by_presence : (b : Bool) → nat_lt k (length counts) ≡ b
         → list_any (has (Some k) (accepted_of (Some k) (take p log)) n q cid asked told) seats ≡ list_any (has (Some k) (count_of counts (Some k)) n q cid asked told) seats
-    go true within = ap (λ (place : ℕ). list_any (has (Some k) place n q cid asked told) seats) (sym (counted.each k (ltb-true k (length counts) within)))
-    go false past =
+    by_presence true within = ap (λ (place : ℕ). list_any (has (Some k) place n q cid asked told) seats) (sym (counted.each k (ltb-true k (length counts) within)))
+    by_presence false past =
         let unknown : is_known seats (Some k) ≡ false = not_known seats (length counts) k below (ltb-false k (length counts) past) in
         stands_nowhere (Some k) (accepted_of (Some k) (take p log)) n q cid asked told seats unknown ∙ sym (stands_nowhere (Some k) (count_of counts (Some k)) n q cid asked told seats unknown)
 
@@ -471,13 +471,13 @@ stands_by log p number counts t seats s m counted below within tells =
 -- What was found so far
 
 stand_more : (log : List Entry) (seats : List SeatContents) (p n : ℕ) → ((e : Entry) → slice_get log p ≡ Some e → is_accepted e ≡ true → stands log seats p e ≡ true) → StandFrom log seats (p + 1) n → StandFrom log seats p n
-stand_more log seats p n here stand k from before e get is = go (p == k) refl
+stand_more log seats p n here stand k from before e get is = by_place (p == k) refl
   where
-    go : (b : Bool) → (p == k) ≡ b → stands log seats k e ≡ true
-    go true same =
+    by_place : (b : Bool) → (p == k) ≡ b → stands log seats k e ≡ true
+    by_place true same =
         let at : p ≡ k = eqb-true p k same in
         subst (λ (i : ℕ). slice_get log i ≡ Some e → stands log seats i e ≡ true) at (λ there. here e there is) get
-    go false other = let far : p ≡ k → ⊥ = eqb-false p k other in stand k (omega (arith, far)) before e get is
+    by_place false other = let far : p ≡ k → ⊥ = eqb-false p k other in stand k (omega (arith, far)) before e get is
 
 pub found_more : (log : List Entry) (seats : List SeatContents) (p : ℕ) (found : Option (ℕ × ℕ)) → ((e : Entry) → slice_get log p ≡ Some e → is_accepted e ≡ true → stands log seats p e ≡ true)
     → MatchOption found (StandFrom log seats (p + 1) (length log)) (λ m. IsMissingFrom log seats (p + 1) m.0 m.1)

@@ -1,4 +1,4 @@
--- What the calls of a book do: each makes one step of the world, and writes it down, but for one that answers `Memory`.
+-- What the calls of a book do: each makes one step of the world, and writes it down unless it answers `Memory`.
 use Rattle.std.specs.Prelude.{◌≡◌, ℕ, ◌+◌, ◌==◌, ◌&&◌, Bool, false, is_none, Option, Some, None, option_and_then, Result, Ok, Err, List, [], ◌∷◌, ◌++◌, length, position, slice_get, slice_set, slice_index_or}
 use mathlib.Core.List.{IsPrefix}
 use Rattle.entry_codec.specs.declared.status.Status.{Status}
@@ -41,8 +41,8 @@ WantsMemoryFor Cause r = Unit {0}
 abbrev pub IsLogFull : BookContents → Type 0
 IsLogFull book = book.room.entries ≡ 0
 
--- the most page numbers that the log has to take for a reservation: none of one that is refused; else those of its data pages, and of its chain
--- no more than there are pieces
+-- the most page numbers that the log has to take for a reservation: none for one that is refused; otherwise those of its data pages, and of its chain no more than
+-- there are pieces
 abbrev pub most_of : Option Refusal → Request → ℕ
 most_of None r = data_count r.pieces + length r.pieces
 most_of (Some why) r = 0
@@ -65,7 +65,7 @@ HasNoTable book = book.tabled ≡ false
 abbrev pub AreReceiptsFull : SeatContents → Type 0
 AreReceiptsFull seat = seat.spare ≡ 0
 
--- the event takes memory of the world's own, and nothing else stands in its way; of a fetch after a forged entry the second is not said
+-- the event takes memory of the world's own, and nothing else stands in its way; the second is not said of a fetch after a forged entry
 abbrev pub MayWorldWant : BookContents → Event → Type 0
 MayWorldWant book e = (touched : List ℕ) × machine.Permits book.world e (events.Refused refusal.Memory touched)
 
@@ -74,7 +74,7 @@ MayWorldWant book e = (touched : List ℕ) × machine.Permits book.world e (even
 abbrev pub receipt : ℕ → ℕ → ℕ → Asked → Option Status → Receipt
 receipt number q cid asked status = record { number = number; q = q; cid = cid; asked = asked; status = status }
 
--- a seat has a receipt more for an accepted submission
+-- a seat has one more receipt for an accepted submission
 abbrev pub Receives : List Entry → SeatContents → DraftContents → Result TicketContents (Refused DraftContents) → SeatContents → Type 0
 Receives log old d (Ok ticket) new = new ≡ record old { receipts = old.receipts ++ receipt (accepted log) d.q d.cid (asked_of d.request) None ∷ []; spare = new.spare; known = new.known }
 Receives log old d (Err r) new = new ≡ record old { spare = new.spare }
@@ -88,7 +88,7 @@ Learns log old d (Err r) new = new.known ≡ old.known
 abbrev pub is_open_for : ℕ → ℕ → Receipt → Bool
 is_open_for q cid r = (r.q == q) && (r.cid == cid) && is_none r.status
 
--- what stands for a receipt behind the end of a list
+-- what stands for a receipt past the end of a list
 abbrev pub no_receipt : Receipt
 no_receipt = receipt 0 0 0 (record { kind = Read; nsid = 0; flags = NONE; slba = 0; block_size = Bytes512; blocks = 0 }) None
 

@@ -68,12 +68,12 @@ abbrev pub is_receipt_of : ℕ → ℕ → ℕ → Option Asked → Option Statu
 is_receipt_of number q cid asked told None = false
 is_receipt_of number q cid asked told (Some r) = (r.number == number) && (r.q == q) && (r.cid == cid) && fits_asked r.asked asked && fits_status r.status told
 
--- a seat of this number has at this place that receipt
+-- a seat of this number has that receipt at this index
 abbrev pub has : Option ℕ → ℕ → ℕ → ℕ → ℕ → Option Asked → Option Status → SeatContents → Bool
 has seat place number q cid asked told s = same_seat (Some s.number) seat && is_receipt_of number q cid asked told (slice_get s.receipts place)
 
--- The submission at place p of the log, the j-th of its seat, stands in the j-th receipt of that seat: it has the submission's number, queue
--- and identifier, what its draft asks for, and no status or the one that the log gave the command.
+-- The submission at index p of the log, the j-th of its seat, stands in the j-th receipt of that seat: it has the submission's number, queue and identifier, what
+-- its draft asks for, and no status or the one that the log gave the command.
 abbrev pub stands : List Entry → List SeatContents → ℕ → Entry → Bool
 stands log seats p e =
     let q = queue_in e.step in
@@ -83,7 +83,7 @@ stands log seats p e =
 abbrev pub StandsAt : List Entry → List SeatContents → ℕ → Type 0
 StandsAt log seats p = (e : Entry) → slice_get log p ≡ Some e → is_accepted e ≡ true → stands log seats p e ≡ true
 
--- each accepted submission before place n stands in the receipts
+-- each accepted submission before index n stands in the receipts
 abbrev pub StandBefore : List Entry → List SeatContents → ℕ → Type 0
 StandBefore log seats n = (p : ℕ) → p < n → StandsAt log seats p
 

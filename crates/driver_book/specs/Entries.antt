@@ -1,4 +1,4 @@
--- Logs and their entries, as contracts see them: with requests and lists, wherever they stand.
+-- Logs and their entries, as contracts see them: with requests and lists, wherever they are.
 use Rattle.std.specs.Prelude.{◌≡◌, ◌⊎◌, ℕ, ◌-◌, ◌≤◌, ◌<◌, Option, Some, None, List, [], ◌∷◌}
 use Rattle.io_commands.specs.Asked.{Request}
 use Rattle.step_core.specs.Values.{Reply}
@@ -32,7 +32,7 @@ pub record LogContents : Type 0 where
   pub entries : List Entry
   pub room : Room
 
--- there is room for one entry, with so many pieces and so many pages
+-- there is room for one entry, with this many pieces and this many pages
 pub record Takes (room : Room) (wanted_pieces wanted_pages : ℕ) : Type 0 where
   pub entry : 1 ≤ room.entries
   pub pieces : wanted_pieces ≤ room.pieces
@@ -48,7 +48,7 @@ pub record IsNoLess (before after : Room) : Type 0 where
 abbrev pub Lacks : Room → ℕ → ℕ → Type 0
 Lacks room pieces pages = (room.entries ≡ 0) ⊎ (room.pieces < pieces) ⊎ (room.pages < pages)
 
--- what is left of the room behind an entry with so many pieces and so many pages
+-- what is left of the room after an entry with this many pieces and this many pages
 abbrev pub left : Room → ℕ → ℕ → Room
 left room pieces pages = record { entries = room.entries - 1; pieces = room.pieces - pieces; pages = room.pages - pages }
 

@@ -66,7 +66,7 @@ after_first (Some n) first = Some (n + 1)
 after_first None true = Some 0
 after_first None false = None
 
--- the place of the last draft of a queue and identifier
+-- the index of the last draft of a queue and identifier
 abbrev pub last_place : ℕ → ℕ → List DraftContents → Option ℕ
 last_place q cid [] = None
 last_place q cid (d ∷ drafts) = after_first (last_place q cid drafts) (is_draft q cid d)

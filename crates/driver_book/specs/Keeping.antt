@@ -1,5 +1,5 @@
--- How a log keeps its entries: their requests and drafts in one list, where each has a place; the pieces of the requests in another and the numbers
--- of their pages in a third, of which each names its part.
+-- How a log keeps its entries: their requests and drafts in one list, where each has an index; the pieces of the requests in another and the numbers of their pages
+-- in a third; each names its part of these.
 use Rattle.std.specs.{List.AllByRecursion, Option.option_map, Prelude.{ℕ, ◌≤◌, ◌<◌, min, Bool, true, false, List, [], Option, Some, None, length, slice_get, slice_range}}
 use Rattle.io_commands.specs.{Asked.Request, declared.request.{Kind.TheVariants.Read, Piece.Piece}}
 use Rattle.io_commands.specs.declared.request.TheConstants.Flags.{NONE}
@@ -71,7 +71,7 @@ shown_step pieces drafts step.Reset = step.Reset
 abbrev pub shown_draft : List Piece → List ℕ → KeptDraft → LoggedDraft
 shown_draft pieces pages d = record { request = shown_request pieces d.request; data_pages = part_of pages d.data_pages; chain_pages = part_of pages d.chain_pages }
 
--- the draft at a place of a list
+-- the draft at an index of a list
 abbrev pub draft_at : List KeptDraft → Option ℕ → Option KeptDraft
 draft_at drafts None = None
 draft_at drafts (Some place) = slice_get drafts place
@@ -79,7 +79,7 @@ draft_at drafts (Some place) = slice_get drafts place
 abbrev pub shown : List Piece → List ℕ → List KeptDraft → Kept → Entry
 shown pieces pages drafts k = record { seat = k.seat; step = shown_step pieces drafts k.step; answer = k.answer; draft = option_map (shown_draft pieces pages) (draft_at drafts k.draft) }
 
--- It stands in lists of these lengths
+-- It fits in lists of these lengths
 
 abbrev pub FitsIn : ℕ → Span → Type 0
 FitsIn n s = (s.start ≤ s.end) × (s.end ≤ n)
@@ -90,7 +90,7 @@ DraftFits pieces pages d = FitsIn pieces d.request.pieces × FitsIn pages d.data
 abbrev pub AllDraftsFit : ℕ → ℕ → List KeptDraft → Type 0
 AllDraftsFit pieces pages drafts = AllByRecursion (DraftFits pieces pages) drafts
 
--- the pieces of each draft do, wherever its pages stand
+-- the pieces of each draft do, wherever its pages are
 abbrev pub PiecesFit : ℕ → List KeptDraft → Type 0
 PiecesFit pieces drafts = AllByRecursion (λ d. FitsIn pieces d.request.pieces) drafts
 
@@ -108,17 +108,17 @@ EntryFits drafts k = StepFits drafts k.step × PlaceFits drafts k.draft
 abbrev pub AllFit : ℕ → List Kept → Type 0
 AllFit drafts kept = AllByRecursion (EntryFits drafts) kept
 
--- Places have 32 bits
+-- Indices have 32 bits
 
--- so many elements a list has at most
+-- the most elements that a list has
 abbrev pub most_places : ℕ
 most_places = 4294967295
 
--- so many has one of this capacity at most
+-- the most that one of this capacity has
 abbrev pub places : ℕ → ℕ
 places capacity = min capacity most_places
 
--- what a log keeps stands in these lists, and each list is short enough
+-- what a log keeps is in these lists, and each list is short enough
 pub record Stands (pieces : List Piece) (pages : List ℕ) (drafts : List KeptDraft) (kept : List Kept) : Type 0 where
   pub entries_fit : AllFit (length drafts) kept
   pub drafts_fit : AllDraftsFit (length pieces) (length pages) drafts

@@ -1,5 +1,5 @@
--- What a list and a beginning of one own: the right to lengthen it, and that it was once so long. The entries are kept as their ghost values, in an
--- algebra that names no type parameter.
+-- What a list and a beginning of one own: the right to lengthen it, and that it was once this long. The entries are kept as their ghost values, in an algebra that
+-- names no type parameter.
 use Rattle.std.specs.Prelude.{ℕ, List, map}
 use base.Fraction.{full_share}
 use base.Stored.{Gv, Coded}

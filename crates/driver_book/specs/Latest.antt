@@ -13,7 +13,7 @@ pub record SubmissionsContents : Type 0 where
 abbrev pub is_place : ℕ → ℕ → ℕ → ℕ → Bool
 is_place q cid p id = (q == p) && (cid == id)
 
--- the number that a table has of a queue and identifier is that of the last submission there
+-- the number that a table has for a queue and identifier is that of the last submission there
 abbrev pub IsLatest : List (Row ℕ) → List DraftContents → Type 0
 IsLatest rows drafts = (q cid number : ℕ) → value_at rows q cid ≡ Some number → last_place q cid drafts ≡ Some number
 

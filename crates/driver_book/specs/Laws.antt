@@ -7,8 +7,7 @@ use Rattle.step_core.specs.{Going.forges_by, Opening.opening_of, Values.Step}
 use Rattle.driver_book.specs.{Entries.Entry, History.{asked, told, draft_of, TellsOf, LeadsTo}, State.AreOfJobs}
 use Rattle.step_core.specs.declared.step.Step.TheVariants as step
 
--- the states before and behind an entry of a log, and what it tells of: in a trusted world it names allowed
--- pages alone, and only those of its own queue or command
+-- the states before and after an entry of a log, and what it tells of: in a trusted world it names allowed pages alone, and only those of its own queue or command
 pub record IsEntryOf (opening : State) (before : List Entry) (e : Entry) (after : List Entry) (world : State) : Type 0 where
   pub old : State
   pub new : State
@@ -23,8 +22,7 @@ entries_name_allowed_pages =
     → refusal_of_config config ≡ None → IsImage image → LeadsTo (opening_of config image) (before ++ e ∷ after) world
     → IsEntryOf (opening_of config image) before e after world
 
--- a log in which no forgery was accepted is a run of which the machine's laws speak, resets and all; so is each front of it, and each
--- state on the way is trusted
+-- a log in which no forgery was accepted is a run covered by the machine's laws, resets and all; so is each prefix of it, and each state on the way is trusted
 pub record IsTrustedLog (image : List ℕ) (log : List Entry) (world : State) : Type 0 where
   pub made : List Made
   pub happened : map (λ e. e.step) log ≡ map (λ m. asked m.event) made
@@ -47,13 +45,13 @@ logs_of_jobs_are_trusted_runs =
     (config : Config) (image : List ℕ) (log : List Entry) (world : State)
     → refusal_of_config config ≡ None → IsImage image → LeadsTo (opening_of config image) log world → AreOfJobs log → IsTrustedLog image log world
 
--- Pieces are one history: a log that leads from a state, and one that leads on from where it led, lead there one behind the other.
+-- Pieces are one history: a log that leads from a state, and one that leads on from where it led, lead there one after the other.
 abbrev pub pieces_are_one_history : Type 0
 pieces_are_one_history =
     (opening : State) (first : List Entry) (mid : State) (second : List Entry) (world : State)
     → LeadsTo opening first mid → LeadsTo mid second world → LeadsTo opening (first ++ second) world
 
--- the entries behind the last reset, and all of them where there is none
+-- the entries after the last reset, and all of them where there is none
 abbrev pub resets : Step → Bool
 resets step.Reset = true
 resets what = false

@@ -44,7 +44,7 @@ is_seated e = is_some e.seat || not (is_accepted e)
 abbrev pub AreSeated : List Entry → Type 0
 AreSeated log = AllByRecursion (λ e. is_seated e ≡ true) log
 
--- The steps of jobs: what submitters, who reads completions and the controller do for them. The others change queues, abort, forge or reset.
+-- The steps of jobs: what submitters, the reader of completions and the controller do for them. The others change queues, abort, forge or reset.
 abbrev pub is_of_jobs : Step → Bool
 is_of_jobs (step.Abort q cid) = false
 is_of_jobs (step.DeleteSq q) = false

@@ -1,5 +1,5 @@
-//! The steps that no job takes: commands to the controller, retirements, forged entries and resets. A book takes them where its driver takes
-//! every step. Each is written down, but for one that answers `Memory`: of the book only the spare room of its log may differ then.
+//! The steps that no job takes: commands to the controller, retirements, forged entries and resets. A book takes them where its driver takes every
+//! step. Each is written down unless it answers `Memory`: then only the spare room of the book's log may differ.
 
 ghost use Rattle.std.specs.Prelude.{◌≡◌, IfErr, OnOk};
 ghost use Rattle.machine_model.specs.Agreeing.{SidesAgree};

@@ -92,7 +92,6 @@ pub struct BookRefused<A: Allocator = Global> {
 
 /// A world, and the log of all its steps since it opened, in the memory of one allocator. Contracts see both, and the
 /// rest of `BookContents`.
-#[derive(Drop)]
 pub struct Book<L: LogBrand, A: Allocator = Global> {
     pub(crate) alloc: A,
     pub(crate) world: World<A>,
@@ -103,6 +102,33 @@ pub struct Book<L: LogBrand, A: Allocator = Global> {
     pub(crate) made: u16,
     pub(crate) out: u16,
     pub(crate) stopping: bool,
+}
+
+impl<L: LogBrand, A: Allocator> Book<L, A> {
+    /// The log and the world.
+    pub(crate) fn apart(self) -> (Log<A>, World<A>)
+        ensures log { result.0 ≡ record { entries = self.log; room = self.room } }
+        ensures world { result.1 ≡ record { state = self.world; touches = self.touches } }
+    {
+        let Self {
+            log,
+            world,
+            alloc: _,
+            submissions: _,
+            tally: _,
+            rest: _,
+            made: _,
+            out: _,
+            stopping: _,
+        } = self;
+        (log, world)
+    }
+}
+
+impl<L: LogBrand, A: Allocator> Drop for Book<L, A> {
+    fn drop(self) {
+        drop(self.apart());
+    }
 }
 
 impl<L: LogBrand, A: Allocator> Model for Book<L, A> {
@@ -152,9 +178,8 @@ impl<L: LogBrand, A: Allocator + Copy> Book<L, A> {
         Ok(Book::over(alloc, world, blank))
     }
 
-    /// Opens a book over a world that is there, with an empty log and no seat. The world's state, whatever led to it, is the book's
-    /// opening. The allocator is that of all that the book will hold, but for what the world holds already. What is blank
-    /// opens this book alone.
+    /// Opens a book over an existing world, with an empty log and no seat. The world's state, whatever led to it, is the book's opening. The
+    /// allocator is that of all that the book will hold, except for what the world already holds. What is blank opens this book alone.
     pub fn over(alloc: A, world: World<A>, blank: BlankBook<A>) -> Book<L, A>
         requires name { blank.ledger.name ≡ L.name }
         requires parts { blank.ledger.parts ≡ L.parts }
@@ -266,7 +291,7 @@ impl<L: LogBrand, A: Allocator + Copy> Book<L, A> {
         self.submissions.len()
     }
 
-    /// Whether the last submission of this queue and identifier is known to be the one of this number, counted from 0.
+    /// Whether the last submission of this queue and identifier is known to be the one with this number, counted from 0.
     pub fn is_latest(&self, q: u16, cid: u16, number: u64) -> bool
         ensures { OnTrue result (last_place q cid self.now.drafts ≡ Some number) }
     {
@@ -299,6 +324,7 @@ impl<L: LogBrand, A: Allocator + Copy> Book<L, A> {
 
     /// Ends the book and its world. It takes no memory.
     pub fn end(self) -> Ended {
-        self.world.end()
+        let (_, world) = self.apart();
+        world.end()
     }
 }

@@ -36,10 +36,10 @@ pub struct CarryRefused<L: LogBrand, A: Allocator = Global> {
 }
 
 impl<L: LogBrand, A: Allocator + Copy> Book<L, A> {
-    /// Closes the book as [`Book::close`], and hands out its log, with its report, and its world. A book over that world ([`Book::over`])
-    /// begins with an empty log, and with submissions and seats that are counted from 0: so one may go on without end in bounded memory.
-    /// The logs of books that open each over the world of the one before, one behind the other, are one history
-    /// ([`law_of_pieces`](crate::laws::law_of_pieces)). The ledger and its shares end with the book. It takes the memory that `close` takes, and no more.
+    /// Closes the book as [`Book::close`], and hands out its log, with its report, and its world. A book over that world ([`Book::over`]) begins with
+    /// an empty log, and with submissions and seats that are counted from 0: so one may go on without end in bounded memory. The logs of books that
+    /// each open over the world of the one before, one after the other, are one history ([`law_of_pieces`](crate::laws::law_of_pieces)). The ledger
+    /// and its shares end with the book. It takes the memory that `close` takes, and no more.
     ///
     /// # Errors
     ///
@@ -62,7 +62,7 @@ impl<L: LogBrand, A: Allocator + Copy> Book<L, A> {
         let mut book = self;
         match book.close(seats) {
             Ok(report) => {
-                let Book { log, world, .. } = book;
+                let (log, world) = book.apart();
                 Ok(ClosedLog { log, report, world })
             }
             Err(CloseRefused { why, seats }) => Err(CarryRefused { why, seats, book }),

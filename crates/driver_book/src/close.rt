@@ -48,7 +48,7 @@ fn is_submission(entry: &ShownEntry<'_>) -> bool
     is_accepted_step(&entry.step, &entry.answer)
 }
 
-/// Whether two seats, or none, are one.
+/// Whether two seats, or none, are the same.
 fn is_same_seat(a: Option<u16>, b: Option<u16>) -> bool
     ensures { result ≡ same_seat a b }
 {
@@ -59,7 +59,7 @@ fn is_same_seat(a: Option<u16>, b: Option<u16>) -> bool
     }
 }
 
-/// How many submissions were accepted before a place of a log.
+/// How many submissions were accepted before an index of a log.
 fn accepted_before<A: Allocator>(log: &Log<A>, end: usize) -> u64
     requires { end ≤ length log.now.entries }
     ensures { result ≡ accepted (take end log.now.entries) }
@@ -96,7 +96,7 @@ fn status_of_step(q: u16, cid: u16, step: &ShownStep<'_>, answer: &Reply<NoBytes
     }
 }
 
-/// The first status that a log gives a submitted command behind a place.
+/// The first status that a log gives a submitted command after an index.
 fn status_behind<A: Allocator>(q: u16, cid: u16, log: &Log<A>, index: usize) -> Option<Status>
     requires { index < length log.now.entries }
     ensures { result ≡ held q cid (drop (index + 1) log.now.entries) }
@@ -114,7 +114,7 @@ fn status_behind<A: Allocator>(q: u16, cid: u16, log: &Log<A>, index: usize) -> 
     None
 }
 
-/// Whether two statuses are one.
+/// Whether two statuses are the same.
 fn is_same_status(a: Status, b: Status) -> bool
     ensures { result ≡ same_statuses a b }
 {
@@ -205,7 +205,7 @@ fn is_wanted(receipt: Option<Receipt>, wanted: Wanted) -> bool
     }
 }
 
-/// Whether a seat has this number, and at this place the receipt that is wanted.
+/// Whether a seat has this number, and at this index the receipt that is wanted.
 fn has_receipt<L: LogBrand, A: Allocator>(
     holder: &Seat<L, A>,
     seat: Option<u16>,
@@ -218,7 +218,7 @@ fn has_receipt<L: LogBrand, A: Allocator>(
         && is_wanted(holder.receipts.get(place).copied(), wanted)
 }
 
-/// Whether some seat has this number, and at this place the receipt that is wanted.
+/// Whether some seat has this number, and at this index the receipt that is wanted.
 pub(crate) fn any_has<L: LogBrand, A: Allocator>(
     seats: &[Seat<L, A>],
     seat: Option<u16>,
@@ -230,8 +230,7 @@ pub(crate) fn any_has<L: LogBrand, A: Allocator>(
     seats.iter().any(|s| has_receipt(s, seat, place, wanted))
 }
 
-/// Whether the submission at `index` of the log, which is the one of this number, and the one at this place of its seat, stands in the
-/// receipts.
+/// Whether the submission at `index` of the log, which is the one with this number, and the one at this index of its seat, stands in the receipts.
 fn does_stand<L: LogBrand, A: Allocator>(
     log: &Log<A>,
     seats: &[Seat<L, A>],
@@ -259,7 +258,7 @@ fn does_stand<L: LogBrand, A: Allocator>(
     any_has(seats, entry.seat, place, wanted)
 }
 
-/// Goes through the first entries of a log, with the place of one seat: where its first submission stands that is in no receipt.
+/// Goes through the first entries of a log, with the position of one seat: where its first submission is that stands in no receipt.
 fn missing_of<L: LogBrand, A: Allocator>(
     log: &Log<A>,
     seats: &[Seat<L, A>],
@@ -296,7 +295,7 @@ fn has_seat<L: LogBrand, A: Allocator>(seats: &[Seat<L, A>], seat: Option<u16>) 
     seats.iter().any(|s| is_same_seat(Some(s.number), seat))
 }
 
-/// How far the accepted submissions of a log are of seats that were handed in.
+/// How far into a log the accepted submissions are of seats that were handed in.
 fn known_until<L: LogBrand, A: Allocator>(log: &Log<A>, seats: &[Seat<L, A>]) -> usize
     ensures within { result ≤ length log.now.entries }
     ensures known { AreKnown log.now.entries seats.now result }
@@ -381,7 +380,7 @@ impl<L: LogBrand, A: Allocator + Copy> Book<L, A> {
     /// Compares the log with the receipts of the seats, and takes the seats. It goes through the log twice, and once for each seat where there
     /// is no memory for tables. `Ok` says that each accepted submission of the log
     /// stands in the receipts, as the j-th of its seat in that seat's j-th receipt, with its number, queue and identifier, what it
-    /// asks for (kind, first block and number of blocks) and the status that the log gave it; that there is no further receipt; that
+    /// asks for (all but its pieces) and the status that the log gave it; that there is no further receipt; that
     /// each seat out was handed in; and that no receipt is without a status and no command outstanding. Whatever is answered, the log
     /// tells of a run of the machine that leads from the opening to the world, which is sound.
     ///

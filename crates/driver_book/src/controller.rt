@@ -1,4 +1,4 @@
-//! The controller's steps, each written down, but for one that answers `Memory`.
+//! The controller's steps, each written down unless it answers `Memory`.
 
 ghost use Rattle.std.specs.Prelude.{◌≡◌, ◌⊎◌, [], None};
 ghost use Rattle.machine_model.specs.Events as events;
@@ -28,7 +28,7 @@ impl<L: LogBrand, A: Allocator + Copy> Book<L, A> {
     ///
     /// # Errors
     ///
-    /// As there, and `Memory` where the log cannot grow: of the book only the spare room of its log may differ then.
+    /// As there, and `Memory` where the log cannot grow: then only the spare room of the book's log may differ.
     pub fn fetch(&mut self, q: u16) -> Result<Fetched, StepRefused>
         ensures step { Does self.old None (events.Fetch q) (fetch_reply result) self.new }
         ensures touches { StaysAllowed self.old.world (events.Fetch q) (fetch_reply result) }
@@ -47,7 +47,7 @@ impl<L: LogBrand, A: Allocator + Copy> Book<L, A> {
     ///
     /// # Errors
     ///
-    /// As there, and `Memory` where the log cannot grow: of the book only the spare room of its log may differ then.
+    /// As there, and `Memory` where the log cannot grow: then only the spare room of the book's log may differ.
     pub fn walk(&mut self, q: u16, cid: u16) -> Result<Walked, StepRefused>
         ensures step { Does self.old None (events.Walk q cid) (walk_reply result) self.new }
         ensures touches { StaysAllowed self.old.world (events.Walk q cid) (walk_reply result) }
@@ -66,7 +66,7 @@ impl<L: LogBrand, A: Allocator + Copy> Book<L, A> {
     ///
     /// # Errors
     ///
-    /// As there, and `Memory` where the log cannot grow: of the book only the spare room of its log may differ then.
+    /// As there, and `Memory` where the log cannot grow: then only the spare room of the book's log may differ.
     pub fn complete(&mut self, q: u16, cid: u16) -> Result<Completed, StepRefused>
         ensures step { Does self.old None (events.Complete q cid) (complete_reply result) self.new }
         ensures touches { StaysAllowed self.old.world (events.Complete q cid) (complete_reply result) }

@@ -1,4 +1,4 @@
-//! How submitted commands ended: what the entries of a log from a place on say of it, in a table.
+//! How submitted commands ended: what the entries of a log starting at an index say about it, in a table.
 
 ghost use Rattle.std.specs.Prelude.{◌≡◌, ◌+◌, ◌*◌, ◌<◌, ◌≤◌, Some, IfOk, List, length, slice_set};
 ghost use Rattle.driver_book.specs.Entries.{Entry as AnEntry};
@@ -10,16 +10,16 @@ use entry_codec::Status;
 use std::alloc::{AllocError, Allocator};
 use std::marker::Model;
 
-/// An end of commands: where it stands in the log, and the status that they have by it.
+/// An end of commands: where it is in the log, and the status that it gives them.
 #[derive(Clone, Copy)]
 pub(crate) struct End {
     pub(crate) place: usize,
     pub(crate) status: Status,
 }
 
-/// What the entries of a log from a place on say of the ends of submitted commands. Three ends may be a command's: its own, the retirement
-/// of its queue, and the reset of the controller; the first of them is. So a retirement or a reset is written down once, however many
-/// commands it ends.
+/// What the entries of a log starting at an index say about the ends of submitted commands. Three ends may be a command's: its own, the retirement of
+/// its queue, and the reset of the controller; the first of them counts. So a retirement or a reset is written down once, however many commands it
+/// ends.
 #[derive(Drop)]
 pub(crate) struct Ends<A: Allocator> {
     /// How many identifiers each queue has here.
@@ -54,7 +54,7 @@ fn first_of(a: Option<End>, b: Option<End>) -> Option<End>
     }
 }
 
-/// Puts an end into a list, where it has such a place.
+/// Puts an end into a list, where it has such an index.
 fn put(ends: &mut [Option<End>], index: usize, end: End)
     ensures { ends.new ≡ slice_set ends.old index (Some end) }
 {
@@ -64,7 +64,7 @@ fn put(ends: &mut [Option<End>], index: usize, end: End)
 }
 
 impl<A: Allocator + Copy> Ends<A> {
-    /// The table of no entries, for so many queues and identifiers.
+    /// The table of no entries, for this many queues and identifiers.
     pub(crate) fn none(alloc: A, queues: usize, identifiers: usize) -> Result<Self, AllocError>
         requires queues { queues ≤ 65536 }
         requires identifiers { identifiers ≤ 65536 }
@@ -98,7 +98,7 @@ impl<A: Allocator> Ends<A> {
         }
     }
 
-    /// Puts down an end of one command.
+    /// Records an end of one command.
     fn end_one(&mut self, q: u16, cid: u16, end: End)
         ensures size { length self.old.single ≡ length self.old.retired * self.old.identifiers }
         ensures single { self.new.single ≡ with_single self.old q cid end }
@@ -112,7 +112,7 @@ impl<A: Allocator> Ends<A> {
         }
     }
 
-    /// Puts down an end of a queue's commands.
+    /// Records an end of a queue's commands.
     fn end_queue(&mut self, q: u16, end: End)
         ensures single { self.new.single ≡ self.old.single }
         ensures retired { self.new.retired ≡ slice_set self.old.retired q (Some end) }
@@ -122,7 +122,7 @@ impl<A: Allocator> Ends<A> {
         put(self.retired.as_mut_slice(), usize::from(q), end);
     }
 
-    /// Goes back by one entry of the log, which stands at this place.
+    /// Goes back by one entry of the log, the one at this index.
     pub(crate) fn go_back(&mut self, log: &Log<A>, place: usize)
         requires within { place < length log.now.entries }
         requires tells { Tells self.old log.now.entries (place + 1) }

@@ -9,8 +9,8 @@ use io_commands::RequestOf;
 use std::marker::Model;
 use step_core::{Reply, Step};
 
-/// An entry of a log: a step of the world, who made it, what was answered, and of a reservation that was accepted and of each submission
-/// what the draft was. The bytes of drafts and of finished commands are left out.
+/// An entry of a log: a step of the world, who made it, what was answered, and for an accepted reservation and for each submission what the draft
+/// was. The bytes of drafts and of finished commands are left out.
 #[derive(Drop)]
 pub struct Entry<R, B, P> {
     /// The number of the seat that made the step, if one did.
@@ -34,14 +34,14 @@ pub struct LoggedDraft<R, P> {
     pub chain_pages: P,
 }
 
-/// Which part of a list: from a place on, to before another.
+/// Which part of a list: from one index up to, but not including, another.
 #[derive(Clone, Copy)]
 pub(crate) struct Span {
     pub(crate) start: u32,
     pub(crate) end: u32,
 }
 
-/// What stands in a log where a step or an answer has bytes: none. Contracts see the empty list.
+/// What is in a log where a step or an answer has bytes: none. Contracts see the empty list.
 #[derive(Clone, Copy, Debug)]
 pub struct NoBytes;
 
@@ -58,10 +58,10 @@ impl Model for NoBytes {
 /// A request as a log keeps it: its pieces are a part of the log's list of pieces.
 pub(crate) type KeptRequest = RequestOf<Span>;
 
-/// A draft as a log keeps it, or a request of which no draft came, which has no pages.
+/// A draft as a log keeps it, or a request that gave no draft, which has no pages.
 pub(crate) type KeptDraft = LoggedDraft<KeptRequest, Span>;
 
-/// A step as a log keeps it: a request is a place in the log's list of drafts.
+/// A step as a log keeps it: a request is an index into the log's list of drafts.
 pub type KeptStep = Step<u32, NoBytes>;
 
 /// An entry as a log keeps it.
@@ -69,7 +69,7 @@ pub type KeptStep = Step<u32, NoBytes>;
 pub(crate) struct KeptEntry {
     /// The number of the seat that made the step, if one did.
     pub(crate) seat: Option<u16>,
-    /// The place of its draft in the log's list of drafts, if it has one.
+    /// The index of its draft in the log's list of drafts, if it has one.
     pub(crate) draft: Option<u32>,
     /// The step.
     pub(crate) step: KeptStep,

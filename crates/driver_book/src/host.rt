@@ -1,5 +1,4 @@
-//! The host's steps for jobs that need no seat, each written down, but for one that answers `Memory`: of the book only the spare room of its
-//! log may differ then.
+//! The host's steps for jobs that need no seat, each written down unless it answers `Memory`: then only the spare room of the book's log may differ.
 
 ghost use Rattle.std.specs.Prelude.{◌≡◌, ◌⊎◌, None, IfErr, IfOk};
 ghost use Rattle.host_core.specs.Alone.{HasPlacedPages, IsLowest};
@@ -26,8 +25,8 @@ pub(crate) fn unlogged<T>(value: T) -> Refused<T>
     }
 }
 
-/// How many page numbers the log may have to take for a reservation: none where the world refuses it, else one for each data piece,
-/// and for the chain no more than there are pieces.
+/// How many page numbers the log may have to take for a reservation: none where the world refuses it, otherwise one for each data piece, and for the
+/// chain no more than there are pieces.
 fn pages_to_log<A: Allocator + Copy>(world: &World<A>, q: u16, request: &Request<A>) -> usize
     ensures { result ≡ most_pages world.now.state q request.now }
 {

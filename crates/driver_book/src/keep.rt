@@ -1,4 +1,4 @@
-//! What a log keeps of requests and drafts: they stand in its lists, whose places have 32 bits.
+//! What a log keeps of requests and drafts: they are in its lists, whose indices have 32 bits.
 
 ghost use Rattle.std.specs.Prelude.{◌≡◌, ◌+◌, ◌++◌, ◌∷◌, ◌<◌, ◌≤◌, [], OnOk, OnErr, length, vec_len, vec_capacity};
 ghost use Rattle.io_commands.specs.Values.{numbers_of};
@@ -10,7 +10,7 @@ use io_commands::{Draft, Piece, Request, RequestOf};
 use page_memory::{Page, PageNo};
 use std::alloc::{AllocError, Allocator};
 
-/// Makes room for so many more elements in a list whose places have 32 bits.
+/// Makes room for this many more elements in a list whose indices have 32 bits.
 pub(crate) fn reserve_places<T, A: Allocator>(
     list: &mut Vec<T, A>,
     additional: usize,
@@ -28,7 +28,7 @@ pub(crate) fn reserve_places<T, A: Allocator>(
     list.reserve(additional)
 }
 
-/// Puts pieces behind those of a list that has room for them: where they stand.
+/// Adds pieces after those of a list that has room for them: where they are.
 fn keep_pieces<A: Allocator>(list: &mut Vec<Piece, A>, pieces: &[Piece]) -> Span
     requires { vec_len list.old + length pieces.now ≤ places (vec_capacity list.old) }
     ensures items { list.new.items ≡ list.old.items ++ pieces.now }
@@ -47,7 +47,7 @@ fn keep_pieces<A: Allocator>(list: &mut Vec<Piece, A>, pieces: &[Piece]) -> Span
     }
 }
 
-/// Puts the numbers of pages behind those of a list that has room for them: where they stand.
+/// Adds the numbers of pages after those of a list that has room for them: where they are.
 fn keep_numbers<A: Allocator, B: Allocator>(list: &mut Vec<PageNo, A>, pages: &[Page<B>]) -> Span
     requires { vec_len list.old + length pages.now ≤ places (vec_capacity list.old) }
     ensures items { list.new.items ≡ list.old.items ++ numbers_of pages.now }
@@ -89,7 +89,7 @@ fn keep_request<A: Allocator, B: Allocator>(
     }
 }
 
-/// Keeps a request of which no draft came, whose pieces have room.
+/// Keeps a request that gave no draft, whose pieces have room.
 pub(crate) fn keep_without_draft<A: Allocator, B: Allocator>(
     list: &mut Vec<Piece, A>,
     request: &Request<B>,
@@ -136,7 +136,7 @@ pub(crate) fn keep_draft<A: Allocator, B: Allocator>(
     }
 }
 
-/// Puts a draft behind those of a list that has room for it: where it stands.
+/// Adds a draft after those of a list that has room for it: its index.
 pub(crate) fn put_draft<A: Allocator>(list: &mut Vec<KeptDraft, A>, draft: KeptDraft) -> u32
     requires { vec_len list.old < places (vec_capacity list.old) }
     ensures items { list.new.items ≡ list.old.items ++ draft ∷ [] }

@@ -1,9 +1,9 @@
 //! A list that one owner lengthens, and that everybody may know a beginning of. Its entries exist in the proofs alone.
 //!
-//! What two threads found behind a lock, or one thread at two moments, no clause can compare. A [`KnownList`] that lies behind the lock beside
-//! the data makes up for that: its owner puts down what happens by [`KnownList::push`], which cannot fail, and hands out a [`Beginning`], which
-//! may go anywhere. Later, [`KnownList::begins_with`] shows that the list has only grown since then. No value here has bytes, and no function
-//! does anything at run time.
+//! No clause can compare what two threads found under a lock, or one thread at two moments. A [`KnownList`] kept under the lock beside the data makes
+//! up for that: its owner records what happens with [`KnownList::push`], which cannot fail, and hands out a [`Beginning`], which may go anywhere.
+//! Later, [`KnownList::begins_with`] shows that the list has only grown since then. No value here has bytes, and no function does anything at run
+//! time.
 
 ghost use Rattle.std.specs.Prelude.{◌≡◌, ℕ, ◌++◌, ◌∷◌, [], List};
 ghost use base.Stored.{coded_list};

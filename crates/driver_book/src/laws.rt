@@ -8,8 +8,8 @@ pub fn law_of_entries()
     ensures { entries_name_allowed_pages }
 {}
 
-/// A log that leads from an opening, and in which no forgery was accepted, is a run of which the machine's laws of trusted runs speak,
-/// resets and all; it ends in a trusted state.
+/// A log that leads from an opening, and in which no forgery was accepted, is a run covered by the machine's laws of trusted runs, resets and all; it
+/// ends in a trusted state.
 pub fn law_of_logs()
     ensures { logs_are_trusted_runs }
 {}
@@ -24,8 +24,8 @@ pub fn law_of_trusted_ends()
     ensures { trusted_ends_are_unforged }
 {}
 
-/// The logs of two books, of which the second opened over the world of the first, are one history: one behind the other, they lead from where the
-/// first opened to where the second leads. So are the logs of any number of such books.
+/// The logs of two books, the second opened over the world of the first, are one history: one after the other, they lead from where the first opened
+/// to where the second leads. So are the logs of any number of such books.
 pub fn law_of_pieces()
     ensures { pieces_are_one_history }
 {}

@@ -66,7 +66,7 @@ fn may_end(step: &KeptStep) -> bool
     matches!(step, Step::Reap { .. } | Step::Retire { .. } | Step::Reset)
 }
 
-/// What the draft at a place asks for, where an entry has one.
+/// What the draft at an index asks for, where an entry has one.
 fn asked_at(drafts: &[KeptDraft], place: Option<u32>) -> Option<Asked>
     requires { PlaceFits (length drafts.now) place }
     ensures { result ≡ asked_in (draft_at drafts.now place) }
@@ -141,12 +141,12 @@ impl<A: Allocator> Log<A> {
         Ok(())
     }
 
-    /// Makes room for one entry, with so many pieces of requests and so many page numbers of drafts.
+    /// Makes room for one entry, with this many pieces of requests and this many page numbers of drafts.
     ///
     /// # Errors
     ///
-    /// Where memory is refused, or a list would have 2^32 elements. The entries stay; one of the three had too little room. What room there
-    /// was is there still.
+    /// Where memory is refused, or a list would have 2^32 elements. The entries stay; one of the three had too little room. Whatever room there was
+    /// is still there.
     pub fn make_room(&mut self, pieces: usize, pages: usize) -> Result<(), AllocError>
         ensures room { OnOk result (Takes self.new.room pieces pages) }
         ensures full { OnErr result (Lacks self.old.room pieces pages) }
@@ -159,7 +159,7 @@ impl<A: Allocator> Log<A> {
         Ok(())
     }
 
-    /// Writes a step without a request behind the others. It takes no memory.
+    /// Writes a step without a request after the others. It takes no memory.
     pub fn push(&mut self, seat: Option<u16>, step: KeptStep, answer: Reply<NoBytes>)
         requires room { 0 < self.old.room.entries }
         requires bare { HasNoRequest step }
@@ -175,7 +175,7 @@ impl<A: Allocator> Log<A> {
         });
     }
 
-    /// Writes a reservation of which no draft came behind the others, with its request. It takes no memory.
+    /// Writes a reservation that gave no draft, with its request, after the others. It takes no memory.
     pub fn push_request<B: Allocator>(
         &mut self,
         seat: Option<u16>,
@@ -198,7 +198,7 @@ impl<A: Allocator> Log<A> {
         });
     }
 
-    /// Writes the reservation of which this draft came behind the others. It takes no memory.
+    /// Writes, after the others, the reservation that gave this draft. It takes no memory.
     pub fn push_reservation<B: Allocator>(&mut self, seat: Option<u16>, draft: &Draft<B>)
         requires { Takes self.old.room (length draft.now.request.pieces) (length draft.now.data_pages + length draft.now.chain_pages) }
         ensures entries { self.new.entries ≡ self.old.entries ++ entry_of seat (events.Reserve draft.now.q draft.now.request) (events.Reserved draft.now) ∷ [] }
@@ -218,8 +218,8 @@ impl<A: Allocator> Log<A> {
         });
     }
 
-    /// Writes the submission of a draft behind the others, as one that is accepted ([`Log::answer_last`] says otherwise). It takes no
-    /// memory, so it may be written before the draft is given away.
+    /// Writes the submission of a draft after the others, as an accepted one ([`Log::answer_last`] says otherwise). It takes no memory, so it may be
+    /// written before the draft is given away.
     pub fn push_submission<B: Allocator>(&mut self, seat: Option<u16>, draft: &Draft<B>)
         requires { Takes self.old.room (length draft.now.request.pieces) (length draft.now.data_pages + length draft.now.chain_pages) }
         ensures entries { self.new.entries ≡ self.old.entries ++ entry_of seat (events.Submit draft.now) events.Accepted ∷ [] }
@@ -240,7 +240,7 @@ impl<A: Allocator> Log<A> {
         });
     }
 
-    /// Has the last entry say this answer.
+    /// Makes the last entry say this answer.
     pub fn answer_last(&mut self, answer: Reply<NoBytes>)
         ensures entries { self.new.entries ≡ answered answer self.old.entries }
         ensures room { self.new.room ≡ self.old.room }
@@ -264,7 +264,7 @@ impl<A: Allocator> Log<A> {
         self.kept.is_empty()
     }
 
-    /// The entry at a place, counted from 0.
+    /// The entry at an index, counted from 0.
     pub fn at<'a>(&'a self, index: usize) -> ShownEntry<'a>
         requires { index < length self.now.entries }
         ensures { slice_get self.now.entries index ≡ Some result }
@@ -272,7 +272,7 @@ impl<A: Allocator> Log<A> {
         shown_entry(&self.pieces, &self.pages, &self.drafts, &self.kept[index])
     }
 
-    /// The entry at a place, counted from 0, where its step may end submitted commands: a reap, a retirement or a reset.
+    /// The entry at an index, counted from 0, where its step may end submitted commands: a reap, a retirement or a reset.
     pub fn ending_at<'a>(&'a self, index: usize) -> Option<ShownEntry<'a>>
         requires { index < length self.now.entries }
         ensures ending { IfSome result (λ entry. slice_get self.now.entries index ≡ Some entry) }
@@ -285,7 +285,7 @@ impl<A: Allocator> Log<A> {
         }
     }
 
-    /// The submission that the entry at a place tells of, counted from 0, where it was accepted.
+    /// The submission that the entry at an index tells of, counted from 0, where it was accepted.
     pub(crate) fn submission_at(&self, index: usize) -> Option<Submission>
         requires { index < length self.now.entries }
         ensures { option_map submission_of (slice_get self.now.entries index) ≡ Some result }
@@ -293,7 +293,7 @@ impl<A: Allocator> Log<A> {
         submission_in(&self.kept[index], &self.drafts)
     }
 
-    /// Which submitted commands the step of the entry at a place ended, counted from 0.
+    /// Which submitted commands the step of the entry at an index ended, counted from 0.
     pub(crate) fn end_at(&self, index: usize) -> EndAt
         requires { index < length self.now.entries }
         ensures { option_map end_of (slice_get self.now.entries index) ≡ Some result }
@@ -302,7 +302,7 @@ impl<A: Allocator> Log<A> {
         end_in(&entry.step, &entry.answer)
     }
 
-    /// The entry at a place, counted from 0, if there is one.
+    /// The entry at an index, counted from 0, if there is one.
     pub fn get<'a>(&'a self, index: usize) -> Option<ShownEntry<'a>>
         ensures { result ≡ slice_get self.now.entries index }
     {

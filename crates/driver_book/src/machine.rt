@@ -1,4 +1,4 @@
-//! A book as what stands under a lock.
+//! A book as the value under a lock.
 
 ghost use Rattle.std.specs.Prelude.{◌≡◌};
 

@@ -1,4 +1,4 @@
-//! What is written down of what a call of the world answered: nothing where it was refused for want of memory.
+//! What is written down of the answer to a call of the world: nothing where it was refused for want of memory.
 
 ghost use Rattle.std.specs.Prelude.{◌≡◌, ◌+◌, ◌++◌, ◌∷◌, ◌<◌, [], None, IfOk, IfErr, OnOk, length};
 ghost use Rattle.machine_model.specs.Events as events;
@@ -14,7 +14,7 @@ use machine_model::words::{Reaped, Refusal};
 use std::alloc::Allocator;
 use step_core::{Completed, Fetched, Refused, Reply, Step, StepRefused, Touched, Walked};
 
-/// Writes a step down that has no request, if there is something to write. The log has room.
+/// Writes down a step that has no request, if there is something to write. The log has room.
 pub(crate) fn note<A: Allocator>(
     log: &mut Log<A>,
     seat: Option<u16>,
@@ -31,7 +31,7 @@ pub(crate) fn note<A: Allocator>(
     }
 }
 
-/// Writes a reservation down, if there is something to write: with its request, and the draft that came of it. The log has room.
+/// Writes down a reservation, if there is something to write: with its request, and the draft that came of it. The log has room.
 pub(crate) fn note_reservation<A: Allocator>(
     log: &mut Log<A>,
     q: u16,
@@ -51,7 +51,7 @@ pub(crate) fn note_reservation<A: Allocator>(
     }
 }
 
-/// Has the submission that was written last say that it was refused, if it was.
+/// Makes the submission that was written last say that it was refused, if it was.
 pub(crate) fn note_refused<A: Allocator>(
     log: &mut Log<A>,
     answer: &Result<Ticket, Refused<Draft<A>>>,
@@ -68,7 +68,7 @@ pub(crate) fn note_refused<A: Allocator>(
     }
 }
 
-/// Of a refusal after which pages were touched.
+/// Of a refusal, with the pages that were touched before it.
 fn touching(why: Refusal, touched: Touched) -> Option<Reply<NoBytes>>
     ensures { result ≡ noted (events.Refused why touched) }
 {

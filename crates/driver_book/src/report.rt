@@ -66,7 +66,7 @@ pub struct NoSeat;
 /// Why a book was not closed: the first of these that holds.
 #[derive(Clone, Copy, Debug, PartialEq, Eq, Error)]
 pub enum CloseFault {
-    /// An accepted submission that stands in no receipt handed in, the first one.
+    /// The first accepted submission that stands in no receipt handed in.
     #[error("submission {number} of seat {seat} stands in no receipt")]
     Missing {
         /// The seat that made it, as the log says.
@@ -127,5 +127,5 @@ pub struct Report<R = Receipts> {
     pub receipts: R,
 }
 
-/// A report whose receipts stand in the memory of one allocator.
+/// A report whose receipts are in the memory of one allocator.
 pub type ReportIn<A> = Report<Receipts<A>>;

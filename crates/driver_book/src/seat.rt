@@ -1,4 +1,4 @@
-//! Seats: who submits has one, with a receipt for each accepted submission.
+//! Seats: whoever submits has one, with a receipt for each accepted submission.
 
 ghost use Rattle.std.specs.Prelude.{◌≡◌, ◌⊎◌, ◌≤◌, ◌<◌, ◌+◌, [], true, Some, None, position, length, vec_len, vec_capacity, IfOk, IfErr, OnOk};
 ghost use Rattle.std.specs.List.{list_any};
@@ -27,7 +27,7 @@ pub struct Seat<L: LogBrand, A: Allocator = Global> {
     pub(crate) number: u16,
     pub(crate) share: Share<L>,
     pub(crate) receipts: Vec<Receipt, A>,
-    /// How many receipts at the head of the list have a status: a search begins behind them.
+    /// How many receipts at the head of the list have a status: a search begins after them.
     pub(crate) settled: usize,
     /// The submissions of the book up to its own last one, or as it was made.
     pub(crate) known: Known<L, A>,
@@ -91,7 +91,7 @@ fn is_open_for(receipt: &Receipt, q: u16, cid: u16) -> bool
     receipt.q == q && receipt.cid == cid && receipt.status.is_none()
 }
 
-/// Where the first receipt for this command without a status stands.
+/// The index of the first receipt for this command without a status.
 fn first_open(receipts: &[Receipt], q: u16, cid: u16) -> Option<usize>
     ensures { result ≡ position (is_open_receipt q cid) receipts.now }
 {
@@ -107,7 +107,7 @@ fn is_awaited(receipts: &[Receipt], settled: usize, q: u16, cid: u16) -> bool
     first_open(&receipts[settled..], q, cid).is_some()
 }
 
-/// Where the first receipt without a status stands.
+/// The index of the first receipt without a status.
 fn first_without_status(receipts: &[Receipt]) -> Option<usize>
     ensures { result ≡ position is_without_status receipts.now }
 {
@@ -152,9 +152,9 @@ impl<L: LogBrand, A: Allocator + Copy> Book<L, A> {
     ///
     /// # Errors
     ///
-    /// As there; the draft is handed back. `Memory` where the log cannot grow, for an entry with the draft's pieces and page numbers, the
-    /// seat's receipts cannot, or the book has no table of its submissions yet and cannot make it: of book and seat only the spare room of
-    /// these lists, and the table, may differ then.
+    /// As there; the draft is handed back. `Memory` where the log cannot grow, for an entry with the draft's pieces and page numbers, the seat's
+    /// receipts cannot, or the book has no table of its submissions yet and cannot make it: then only the spare room of these lists, and the table,
+    /// may differ in book and seat.
     pub fn submit(
         &mut self,
         seat: &mut Seat<L, A>,
@@ -207,7 +207,7 @@ impl<L: LogBrand, A: Allocator + Copy> Book<L, A> {
     ///
     /// # Errors
     ///
-    /// As there; the command is handed back. `Memory` where the log cannot grow: of the book only the spare room of its log may differ then.
+    /// As there; the command is handed back. `Memory` where the log cannot grow: then only the spare room of the book's log may differ.
     pub fn release(
         &mut self,
         seat: &mut Seat<L, A>,

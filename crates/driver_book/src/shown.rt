@@ -11,7 +11,7 @@ use page_memory::PageNo;
 use std::marker::Model;
 use step_core::{Reply, Step};
 
-/// The pieces of a request that stands in a log. Contracts see that list.
+/// The pieces of a request that is in a log. Contracts see that list.
 #[derive(Debug, Drop)]
 pub struct PieceList<'a> {
     pieces: &'a [Piece],
@@ -35,7 +35,7 @@ impl<'a> PieceList<'a> {
     }
 }
 
-/// The numbers of pages of a draft that stands in a log. Contracts see that list.
+/// The page numbers of a draft that is in a log. Contracts see that list.
 #[derive(Debug, Drop)]
 pub struct PageNumbers<'a> {
     pages: &'a [PageNo],
@@ -61,10 +61,10 @@ impl<'a> PageNumbers<'a> {
 /// A step as a log shows it.
 pub type ShownStep<'a> = Step<RequestOf<PieceList<'a>>, NoBytes>;
 
-/// An entry as a log shows it: its request and its pages stand in the log.
+/// An entry as a log shows it: its request and its pages are in the log.
 pub type ShownEntry<'a> = Entry<RequestOf<PieceList<'a>>, NoBytes, PageNumbers<'a>>;
 
-/// A request that stands in a list of pieces.
+/// A request that is in a list of pieces.
 fn shown_request<'a>(pieces: &'a [Piece], request: &KeptRequest) -> RequestOf<PieceList<'a>>
     requires { FitsIn (length pieces.now) request.now.pieces }
     ensures { result ≡ spec_shown_request pieces.now request.now }
@@ -83,7 +83,7 @@ fn shown_request<'a>(pieces: &'a [Piece], request: &KeptRequest) -> RequestOf<Pi
     }
 }
 
-/// Numbers that stand in a list of them.
+/// Numbers that are in a list of them.
 fn shown_pages<'a>(pages: &'a [PageNo], span: Span) -> PageNumbers<'a>
     requires { FitsIn (length pages.now) span }
     ensures { result ≡ part_of pages.now span }
@@ -93,7 +93,7 @@ fn shown_pages<'a>(pages: &'a [PageNo], span: Span) -> PageNumbers<'a>
     }
 }
 
-/// A step whose request stands in a list of drafts, and its pieces in one of those.
+/// A step whose request is in a list of drafts, and its pieces in one of those.
 fn shown_step<'a>(pieces: &'a [Piece], drafts: &[KeptDraft], step: &KeptStep) -> ShownStep<'a>
     requires step { StepFits (length drafts.now) step.now }
     requires pieces { PiecesFit (length pieces.now) drafts.now }
@@ -182,7 +182,7 @@ fn shown_answer(answer: &Reply<NoBytes>) -> Reply<NoBytes>
     }
 }
 
-/// A draft whose pieces and pages stand in these lists.
+/// A draft whose pieces and pages are in these lists.
 fn shown_draft<'a>(
     pieces: &'a [Piece],
     pages: &'a [PageNo],
@@ -198,7 +198,7 @@ fn shown_draft<'a>(
     }
 }
 
-/// An entry whose request and draft stand in these lists.
+/// An entry whose request and draft are in these lists.
 pub(crate) fn shown_entry<'a>(
     pieces: &'a [Piece],
     pages: &'a [PageNo],

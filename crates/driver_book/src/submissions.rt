@@ -1,4 +1,4 @@
-//! The submissions of a book: how many there are, and which was the last one of each queue and identifier. Their drafts, with all their bytes, stand
+//! The submissions of a book: how many there are, and which was the last one of each queue and identifier. Their drafts, with all their bytes, exist
 //! in proofs alone.
 
 ghost use Rattle.std.specs.Prelude.{◌≡◌, ◌+◌, ◌<◌, ◌≤◌, ◌^◌, ◌++◌, ◌∷◌, [], Some, OnOk, OnErr, false, true, is_some, length};
@@ -39,7 +39,7 @@ impl<L: Naming, A: Allocator> Model for Submissions<L, A> {
     ghost invariant = { λ s. (s.count ≡ length s.drafts.entries) × IsLatestIfAny s.latest (map (λ draft. draft.value) s.drafts.entries) };
 }
 
-/// Puts this number in the place of a queue and identifier, where the table has that place.
+/// Puts this number in the slot of a queue and identifier, where the table has that slot.
 fn put<A: Allocator>(table: &mut SlotTable<u64, A>, q: u16, cid: u16, number: u64)
     ensures there { (n : _) → value_at table.new.rows q cid ≡ Some n → n ≡ number }
     ensures others { (p id n : _) → is_place q cid p id ≡ false → value_at table.new.rows p id ≡ Some n → value_at table.old.rows p id ≡ Some n }
@@ -59,7 +59,7 @@ fn note_latest<A: Allocator>(latest: &mut Option<SlotTable<u64, A>>, q: u16, cid
     }
 }
 
-/// Whether this number stands in the place of a queue and identifier.
+/// Whether this number is in the slot of a queue and identifier.
 fn has<A: Allocator>(table: &SlotTable<u64, A>, q: u16, cid: u16, number: u64) -> bool
     ensures { OnTrue result (value_at table.now.rows q cid ≡ Some number) }
 {
@@ -69,7 +69,7 @@ fn has<A: Allocator>(table: &SlotTable<u64, A>, q: u16, cid: u16, number: u64) -
     }
 }
 
-/// Submissions that are known, from the first one on. Contracts see their drafts.
+/// Submissions that are known, starting at the first one. Contracts see their drafts.
 #[derive(Drop)]
 pub(crate) struct Known<L: Naming, A: Allocator> {
     drafts: Beginning<Snapshot<Draft<A>>, L>,
@@ -97,7 +97,7 @@ impl<L: Naming, A: Allocator + Copy> Submissions<L, A> {
         }
     }
 
-    /// Makes the table, for so many queues whose rings have so many entries, where there is none.
+    /// Makes the table, for this many queues whose rings have this many entries, where there is none.
     ///
     /// # Errors
     ///
@@ -119,7 +119,7 @@ impl<L: Naming, A: Allocator + Copy> Submissions<L, A> {
         Ok(())
     }
 
-    /// Puts a submission behind the others: its queue, its identifier and its draft.
+    /// Adds a submission after the others: its queue, its identifier and its draft.
     pub(crate) fn push(&mut self, q: u16, cid: u16, draft: &Snapshot<Draft<A>>)
         requires queue { q ≡ draft.now.value.q }
         requires identifier { cid ≡ draft.now.value.cid }
@@ -140,7 +140,7 @@ impl<L: Naming, A: Allocator> Submissions<L, A> {
         self.count
     }
 
-    /// Whether the last submission of this queue and identifier is known to be the one of this number, counted from 0.
+    /// Whether the last submission of this queue and identifier is known to be the one with this number, counted from 0.
     pub(crate) fn is_latest(&self, q: u16, cid: u16, number: u64) -> bool
         ensures { OnTrue result (last_place q cid self.now.drafts ≡ Some number) }
     {

@@ -26,7 +26,7 @@ const CELLS_BESIDES: usize = 4096;
 /// No table was made: memory was refused, or it would be too large for its log.
 struct NoTable;
 
-/// How many accepted submissions of a log there are before a place.
+/// How many accepted submissions of a log there are before an index.
 #[derive(Drop)]
 struct Counted<A: Allocator> {
     /// In all.
@@ -46,7 +46,7 @@ fn above_all<L: LogBrand, A: Allocator>(seats: &[Seat<L, A>]) -> usize
     end
 }
 
-/// The count of a seat; 0 of a seat that has none.
+/// The count of a seat; 0 for a seat that has none.
 fn count_at(counts: &[usize], seat: Option<u16>) -> usize
     ensures { result ≡ count_of counts.now seat }
 {
@@ -56,7 +56,7 @@ fn count_at(counts: &[usize], seat: Option<u16>) -> usize
     }
 }
 
-/// Below which bounds the queues and identifiers of submissions are.
+/// The bounds below which the queues and identifiers of submissions are.
 #[derive(Clone, Copy)]
 struct Bounds {
     queues: usize,
@@ -64,7 +64,7 @@ struct Bounds {
 }
 
 impl Bounds {
-    /// The bounds of one submission more.
+    /// The bounds with one more submission.
     fn with(self, made: Submission) -> Bounds
         requires queues { self.queues ≤ 65536 }
         requires identifiers { self.identifiers ≤ 65536 }
@@ -79,7 +79,7 @@ impl Bounds {
         }
     }
 
-    /// Whether a table for these is small enough for a log of so many entries.
+    /// Whether a table for these is small enough for a log of this many entries.
     fn are_small(self, entries: usize) -> bool
         requires queues { self.queues ≤ 65536 }
         requires identifiers { self.identifiers ≤ 65536 }
@@ -122,7 +122,7 @@ impl<A: Allocator + Copy> Counted<A> {
 }
 
 impl<A: Allocator> Counted<A> {
-    /// Puts down another count of a seat that has one.
+    /// Sets another count for a seat that has one.
     fn set_count(&mut self, seat: Option<u16>, count: usize)
         ensures seats { self.new.of_seats.items ≡ with_count self.old.of_seats.items seat count }
         ensures number { self.new.number ≡ self.old.number }
@@ -136,7 +136,7 @@ impl<A: Allocator> Counted<A> {
         }
     }
 
-    /// Goes on by one entry of the log, which stands at this place: the submission there, if it is one.
+    /// Goes forward by one entry of the log, the one at this index: the submission there, if it is one.
     fn go_on(&mut self, log: &Log<A>, place: usize) -> Option<Submission>
         requires within { place < length log.now.entries }
         requires few { length log.now.entries < 2 ^ 64 }
@@ -152,7 +152,7 @@ impl<A: Allocator> Counted<A> {
         Some(made)
     }
 
-    /// Goes back by one entry of the log, which stands at this place: the submission there, if it is one.
+    /// Goes back by one entry of the log, the one at this index: the submission there, if it is one.
     fn go_back(&mut self, log: &Log<A>, place: usize) -> Option<Submission>
         requires within { place < length log.now.entries }
         requires counted { AreCounted self.old.number self.old.of_seats.items log.now.entries (place + 1) }
@@ -167,7 +167,7 @@ impl<A: Allocator> Counted<A> {
         Some(made)
     }
 
-    /// Whether the submission behind those that were counted stands in the receipts, where the entries behind it say this of ends.
+    /// Whether the submission after those that were counted stands in the receipts, where the entries after it say this about ends.
     fn does_stand<L: LogBrand>(
         &self,
         made: Submission,

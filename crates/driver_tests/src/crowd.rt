@@ -1,9 +1,9 @@
 //! Runs of threads: submitters with several jobs in flight, with refused jobs between, and over a pool so small that they wait; and gates, at
 //! which two submitters meet, or which are closed.
 
-use crate::jobs::{Asked, Wanted, lists_of, see_ends};
+use crate::jobs::{Asked, READ, Wanted, lists_of, see_ends};
 use crate::looks::{counts, see};
-use crate::part::USUAL;
+use crate::part::{SMALL, USUAL};
 use driver_threads::{Gate, GateClosed, JobRefusal, Point, RunFault, Server};
 use entry_codec::Status;
 use io_commands::Kind;
@@ -18,19 +18,6 @@ use std::sync::atomic::{AtomicBool, AtomicU32, Ordering};
 use std::thread;
 use std::thread::Threads;
 use step_core::Config;
-
-/// A Read of the first block, which has zeros.
-const READ: Asked = Asked {
-    q: 1,
-    kind: Kind::Read,
-    slba: 0,
-    apart: 0,
-    blocks: 1,
-    byte: 0,
-    brings: 0,
-    end: Wanted::Done(Status::SUCCESS, 512),
-    entries: 8 + 2,
-};
 
 /// One that is refused as it is reserved.
 const NO_QUEUE: Asked = Asked {
@@ -131,15 +118,7 @@ const WRITTEN: [Asked; 4] = [
     },
 ];
 
-/// 8 pages that no queue owns, of which a job takes up to 4, and 3 identifiers.
-const SMALL: Config = Config {
-    pages: 12,
-    queues: 1,
-    entries: 4,
-    segment: 256,
-};
-
-/// Submitters that do jobs so many times, each with so many in flight at most.
+/// Submitters that do jobs this many times, each with at most this many in flight.
 #[derive(Clone, Copy)]
 struct Run {
     config: Config,
@@ -149,7 +128,7 @@ struct Run {
     asked: &'static [Asked],
 }
 
-/// One submitter, to which as many are in flight as may be.
+/// One submitter, which has as many in flight as it may.
 const ALONE: Run = Run {
     config: USUAL,
     submitters: 1,

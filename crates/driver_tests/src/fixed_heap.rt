@@ -15,7 +15,7 @@ const OPTIONS: &str = "# options: --pages 20 --entries 17 --blocks 16\n";
 /// A pool without a command.
 const COUNTS: &str = "> counts free 16 queue 4 chain 0 data 0\n";
 
-/// A heap counts its bytes by so many.
+/// A heap counts its bytes in steps of this many.
 const STEP: usize = 16;
 
 /// The smallest heap in which a bench opens.
@@ -24,8 +24,8 @@ const OPENS: usize = 107_712;
 /// The smallest heap in which the commands are carried through.
 const CARRIES: usize = 124_960;
 
-/// A step and its answer, which are written for each command before the next row: what stands before the command's identifier, what stands behind it, and
-/// the identifier once more, with a number added, before the rest.
+/// A step and its answer, which are written for each command before the next row: what comes before the command's identifier, what comes after it,
+/// and the identifier once more, with a number added, before the rest.
 type Row = (&'static str, &'static str, Option<u16>, &'static str);
 
 /// The steps from the building of a list to the collection of a command.
@@ -83,8 +83,8 @@ fn transcript_of(alloc: Global, rows: &[&[Row]]) -> Result<String, AllocError> {
     Ok(text)
 }
 
-/// Plays a transcript of steps on a bench in a heap of so many bytes, and sees what comes: these words where the bench is not opened, or at the end of what
-/// is first answered otherwise than stands there; nothing where it is played as it says. At the end the heap is empty.
+/// Plays a transcript of steps on a bench in a heap of this many bytes, and sees what comes: these words where the bench is not opened, or at the end
+/// of the first answer that differs from the transcript; nothing where it is played as it says. At the end the heap is empty.
 fn see_played<R: Abort>(rt: &R, alloc: Global, rows: &[&[Row]], bytes: usize, words: &str) {
     let text = transcript_of(alloc, rows).expect(rt, "memory");
     let transcript = read_transcript(alloc, &text).expect(rt, "a transcript");

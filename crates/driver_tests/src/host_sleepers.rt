@@ -1,9 +1,10 @@
 //! A thread sleeps over a host under a lock, and a call wakes it: each call by whose name others are told.
 
-use crate::looks::comes;
+use crate::looks::{comes, let_sleep};
+use crate::part::USUAL;
 use driver_threads::Job;
 use entry_codec::{ComEntry, Hints, Status};
-use host_bench::{Call, Config, HostBench, Kind, Reply};
+use host_bench::{Call, HostBench, Kind, Reply};
 use session_scripts::desk::runs::job;
 use shared::{Change, Changes, Shared};
 use std::alloc::Global;
@@ -12,18 +13,7 @@ use std::sync::Wait;
 use std::sync::atomic::{AtomicBool, Ordering};
 use std::thread;
 use std::thread::Threads;
-use std::time::{Clock, Duration};
-
-/// A pool with room for commands of one page, and three identifiers a queue.
-const CONFIG: Config = Config {
-    pages: 16,
-    queues: 1,
-    entries: 4,
-    segment: 256,
-};
-
-/// How many milliseconds the thread has until it sleeps. Where that is too short nothing comes out otherwise.
-const ASLEEP: u64 = 50;
+use std::time::Clock;
 
 /// What is done with the host. Commands are of queue 1 and have identifier 0, as admin commands of queue 0 have.
 #[derive(Clone, Copy)]
@@ -51,7 +41,7 @@ enum Deed {
 /// What is done before a thread sleeps, what it waits for, and the call that wakes it.
 type Waking = (&'static [Deed], Change, Deed);
 
-/// A command is rung.
+/// A doorbell announces a command.
 const RUNG: [Deed; 4] = [Deed::Reserve, Deed::Build, Deed::Submit, Deed::Ring(1)];
 
 /// A command is completed.
@@ -204,7 +194,7 @@ fn see_woken<R: Abort + Clock + Threads + Wait + Sync>(
     (before, change, call): Waking,
     place: usize,
 ) {
-    let Ok(bench) = HostBench::open(alloc, CONFIG) else {
+    let Ok(bench) = HostBench::open(alloc, USUAL) else {
         panic!(rt; "no host");
     };
     let shared = Shared::new(bench);
@@ -217,7 +207,7 @@ fn see_woken<R: Abort + Clock + Threads + Wait + Sync>(
         let Ok(sleeper) = scope.spawn(|| sleep(rt, &shared, change, &called, &back)) else {
             panic!(rt; "no thread was made");
         };
-        thread::sleep(rt, Duration::from_millis(ASLEEP));
+        let_sleep(rt);
         called.store(true, Ordering::SeqCst);
         make(rt, alloc, &shared, call);
         let woken = comes(rt, &back);

@@ -8,7 +8,7 @@ use session_scripts::desk::runs::job;
 use std::alloc::{AllocError, Global};
 use std::process::Abort;
 
-/// A job on a queue, of so many blocks, each in a piece of its own.
+/// A job on a queue, of this many blocks, each in a piece of its own.
 #[derive(Clone, Copy)]
 pub(crate) struct Asked {
     pub(crate) q: u16,
@@ -18,7 +18,7 @@ pub(crate) struct Asked {
     /// How many blocks further that of each other submitter is. At 0 all submitters have the same blocks.
     pub(crate) apart: u64,
     pub(crate) blocks: u32,
-    /// The byte of which its blocks are full. Where submitters have blocks of their own, it is this one in the first round of the first of them.
+    /// The byte with which its blocks are filled. Where submitters have blocks of their own, it is this one in the first round of the first of them.
     pub(crate) byte: u8,
     /// How many such bytes it brings.
     pub(crate) brings: usize,
@@ -30,14 +30,27 @@ pub(crate) struct Asked {
 /// How a job ends.
 #[derive(Clone, Copy)]
 pub(crate) enum Wanted {
-    /// With a status, and so many such bytes.
+    /// With a status, and this many such bytes.
     Done(Status, usize),
     /// It is refused.
     Refused(JobRefusal),
 }
 
+/// A Read of the first block, which has zeros, with a list of one descriptor.
+pub(crate) const READ: Asked = Asked {
+    q: 1,
+    kind: Kind::Read,
+    slba: 0,
+    apart: 0,
+    blocks: 1,
+    byte: 0,
+    brings: 0,
+    end: Wanted::Done(Status::SUCCESS, 512),
+    entries: 8 + 2,
+};
+
 impl Asked {
-    /// The byte of which its blocks are full in this round of a submitter.
+    /// The byte with which its blocks are filled in this round of a submitter.
     fn byte(&self, worker: u8, round: u8) -> u8 {
         if self.apart == 0 {
             self.byte
@@ -78,7 +91,7 @@ fn jobs_of(alloc: Global, asked: &[Asked], worker: u8, rounds: u8) -> Result<Vec
     Ok(jobs)
 }
 
-/// The jobs of so many submitters, each of which does these so many times.
+/// The jobs of this many submitters, each of which does them this many times.
 pub(crate) fn lists_of(
     alloc: Global,
     asked: &[Asked],

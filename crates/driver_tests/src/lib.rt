@@ -1,5 +1,5 @@
-//! Books, also behind a lock, and runs of threads: what no clause says of them, as who is woken and what a schedule leaves, and what benches, worlds and
-//! lists of steps do where memory is refused. It has tests alone, so that they do not prove the book once more.
+//! Books, also under a lock, and runs of threads: what no clause says of them, such as who is woken and what a schedule leaves, and what benches,
+//! worlds and lists of steps do where memory is refused. It has tests alone, so that they do not prove the book once more.
 #![tactic(auto)]
 
 #[cfg(test)]

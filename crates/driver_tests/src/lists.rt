@@ -74,7 +74,7 @@ fn run<R: Abort>(rt: &R, alloc: Global, transcript: &Transcript, growth: u64) ->
     wanting
 }
 
-/// A list of steps is not run where memory is refused for its answers; else it is run to its end, and one step wants memory.
+/// A list of steps is not run where memory is refused for its answers; otherwise it is run to its end, and one step wants memory.
 #[test]
 fn a_list_of_steps_is_run_or_none_is_done(rt: HostRuntime) {
     let alloc = rt.alloc();

@@ -7,10 +7,13 @@ use std::sync::atomic::{AtomicBool, Ordering};
 use std::thread;
 use std::time::{Clock, Duration};
 
-/// How many milliseconds a thread has until it has come so far.
+/// How many milliseconds a thread has until it has come this far.
 const PATIENCE: u32 = 10_000;
 
-/// How many pages are free and are of queues. None is of a command.
+/// How many milliseconds threads have until they sleep. Where that is too short, nothing comes out differently.
+const ASLEEP: u64 = 50;
+
+/// How many pages are free and belong to queues. None belongs to a command.
 pub(crate) fn counts(free_pages: u32, queue_pages: u32) -> Counts {
     Counts {
         free_pages,
@@ -33,7 +36,7 @@ pub(crate) fn see_at<T: PartialEq + Debug, R: Abort>(rt: &R, growth: u64, answer
     );
 }
 
-/// Waits until a thread has come so far. False where it does not.
+/// Waits until a thread has come this far. False where it does not.
 pub(crate) fn comes<R: Clock>(rt: &R, so_far: &AtomicBool) -> bool {
     for _ in 0..PATIENCE {
         if so_far.load(Ordering::SeqCst) {
@@ -42,4 +45,9 @@ pub(crate) fn comes<R: Clock>(rt: &R, so_far: &AtomicBool) -> bool {
         thread::sleep(rt, Duration::from_millis(1));
     }
     false
+}
+
+/// Gives other threads the time to fall asleep.
+pub(crate) fn let_sleep<R: Clock>(rt: &R) {
+    thread::sleep(rt, Duration::from_millis(ASLEEP));
 }

@@ -17,7 +17,7 @@ const TWO_QUEUES: Config = Config {
     segment: 4,
 };
 
-/// Opens a bench over an image with one growth refused. Where memory is refused the image comes back, and the bench is opened once more. Answers whether
+/// Opens a bench over an image with one growth refused. Where memory is refused the image comes back, and the bench is opened again. Answers whether
 /// there was such a growth.
 fn opens_twice<R: Abort>(rt: &R, alloc: Global, config: Config, growth: u64) -> bool {
     let heap = Refusing::new(alloc);

@@ -20,6 +20,14 @@ pub(crate) const USUAL: Config = Config {
     segment: 256,
 };
 
+/// 8 pages that no queue owns, of which a command of the tests takes up to 4, and 3 identifiers.
+pub(crate) const SMALL: Config = Config {
+    pages: 12,
+    queues: 1,
+    entries: 4,
+    segment: 256,
+};
+
 /// Plays a transcript, as it says.
 pub(crate) fn play_text<L: FullLogBrand, R: Abort + Wait, A: Allocator + Copy>(
     rt: &R,

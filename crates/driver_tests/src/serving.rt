@@ -1,15 +1,14 @@
-//! Runs in which who rings serves: what stands right behind each ring in the log.
+//! Runs in which whoever rings serves: what comes right after each ring in the log.
 
 ghost use Rattle.std.specs.Prelude.{◌≡◌};
 ghost use Rattle.step_core.specs.Opening.{opening_of};
 
-use crate::jobs::{Asked, Wanted, lists_of, see_ends};
+use crate::jobs::{Asked, READ, Wanted, lists_of, see_ends};
 use crate::looks::see;
 use block_image::Image;
 use driver_book::{BlankBook, Log, LogBrand};
 use driver_threads::{Open, Ran, Server, run_threads};
 use entry_codec::Status;
-use io_commands::Kind;
 use std::alloc::Global;
 use std::marker::Brand;
 use std::process::Abort;
@@ -26,24 +25,11 @@ struct Reads {
     depth: usize,
     /// Each of them.
     read: Asked,
-    /// The steps that stand in the log at once from its ring on, by their letters.
+    /// The steps that come in the log without a break starting at its ring, by their letters.
     behind: &'static [u8],
 }
 
-/// A Read with a list of one descriptor.
-const READ: Asked = Asked {
-    q: 1,
-    kind: Kind::Read,
-    slba: 0,
-    apart: 0,
-    blocks: 1,
-    byte: 0,
-    brings: 0,
-    end: Wanted::Done(Status::SUCCESS, 512),
-    entries: 8 + 2,
-};
-
-/// Its two units stand behind its ring, and nothing is left to the controller.
+/// Its two units come after its ring, and nothing is left to the controller.
 const SHORT: Reads = Reads {
     submitters: 4,
     depth: 3,
@@ -51,7 +37,7 @@ const SHORT: Reads = Reads {
     behind: b"RFWWCP",
 };
 
-/// The blocks lie behind the image, so the fetch has the verdict, and no list is walked.
+/// The blocks lie past the image, so the fetch has the verdict, and no list is walked.
 const OUTSIDE: Reads = Reads {
     read: Asked {
         slba: 64,
@@ -79,7 +65,7 @@ const LONG: Reads = Reads {
     behind: b"RFWWWWWWWWWWWWWWWWWWWWWWWWWWWWWWWWWWWWWWWWWWWWWWWWWWWWWWWWWWWWWWW",
 };
 
-/// The same beside others: behind a fetch come units of any of them.
+/// The same beside others: after a fetch come units of any of them.
 const LONG_BESIDE_OTHERS: Reads = Reads {
     read: READ_LONG,
     behind: b"RF",
@@ -119,7 +105,7 @@ fn letters_of<R: Abort>(rt: &R, alloc: Global, log: &Log) -> Vec<u8> {
     letters
 }
 
-/// How often these letters stand there.
+/// How often these letters occur there.
 fn times(letters: &[u8], behind: &[u8]) -> usize {
     let mut times: usize = 0;
     for at in 0..letters.len() {

@@ -9,7 +9,7 @@ use host_bench::{
 };
 use sgl_descriptor::Descriptor;
 use shared::{Change, Changes, Machine, Shared};
-use std::alloc::{AllocError, Global};
+use std::alloc::Global;
 use std::process::Abort;
 use std::sync::Wait;
 use std::sync::atomic::{AtomicU32, Ordering};
@@ -117,7 +117,7 @@ impl Device {
     }
 }
 
-/// Some commands of a submitter: all of one kind, each of a block, one after the other from this one on.
+/// Some commands of a submitter: all of one kind, each of a block, one after the other starting at this one.
 #[derive(Clone, Copy)]
 struct Batch {
     kind: Kind,
@@ -126,7 +126,7 @@ struct Batch {
 }
 
 impl Batch {
-    /// The byte of which the block of command `i` is full in this round.
+    /// The byte with which the block of command `i` is filled in this round.
     fn byte(&self, i: u8) -> u8 {
         self.round.wrapping_mul(16).wrapping_add(self.block(i))
     }

@@ -1,6 +1,6 @@
 //! A thread sleeps over a shared world, and a call wakes it: each call that ends what it waits for.
 
-use crate::looks::see;
+use crate::looks::{let_sleep, see};
 use crate::shared_worlds::{cancelled, done, opened, read_of, submitted};
 use entry_codec::Status;
 use shared::{Changes, ServedStep, Shared, calls};
@@ -9,7 +9,7 @@ use std::process::Abort;
 use std::sync::Wait;
 use std::thread;
 use std::thread::Threads;
-use std::time::{Clock, Duration};
+use std::time::Clock;
 use step_core::{Reaped, Refusal, World};
 
 /// What a thread waits for.
@@ -44,8 +44,8 @@ enum Call {
     Stop,
 }
 
-/// How many drafts have four of the eight pages that no queue owns before a thread sleeps, how many Reads of one block are rung, what the thread
-/// waits for, the calls of which the last one wakes it, and what it is woken to.
+/// How many drafts have four of the eight pages that no queue owns before a thread sleeps, how many Reads of one block are announced, what the thread
+/// waits for, the calls, the last of which wakes it, and what it is woken to.
 type Waking = (u32, u32, Sleep, &'static [Call], Woken);
 
 /// What it waited for came.
@@ -57,7 +57,7 @@ const LOST: Woken = Ok(Status::ABORTED_SQ_DELETION);
 /// There is nothing to do.
 const IDLE: Woken = Err(None);
 
-/// All its pages are wanting.
+/// All its pages are missing.
 const NO_PAGES: Woken = Err(Some(Refusal::NoPages { need: 4, free: 0 }));
 
 /// The calls that serve a Read of one block, up to its completion and up to its reap.
@@ -115,9 +115,6 @@ const WAKINGS: [Waking; 13] = [
     (0, 0, Sleep::Serve, &[Call::DeleteSq, Call::Ring(0)], DONE),
     (0, 0, Sleep::Serve, &[Call::Stop], IDLE),
 ];
-
-/// How many milliseconds a thread has until it sleeps. Where that is too short nothing comes out otherwise.
-const ASLEEP: u64 = 50;
 
 /// Waits, and answers what it is woken to.
 fn slept<R: Abort + Wait>(rt: &R, alloc: Global, shared: &Shared<World>, sleep: Sleep) -> Woken {
@@ -211,7 +208,7 @@ fn see_woken<R: Abort + Clock + Threads + Wait + Sync>(
             panic!(rt; "no thread was made");
         };
         for call in calls {
-            thread::sleep(rt, Duration::from_millis(ASLEEP));
+            let_sleep(rt);
             assert!(rt; is_made(rt, &shared, *call));
         }
         see(rt, &sleeper.join(rt), &woken);

@@ -1,6 +1,7 @@
 //! A shared world, and what no clause says of it: readers in threads that wait for each other, the memory that steps ask for, and each call once.
 
 use crate::looks::{counts, see};
+use crate::part::SMALL;
 use block_image::Image;
 use driver_threads::Job;
 use entry_codec::Status;
@@ -14,16 +15,8 @@ use std::process::Abort;
 use std::sync::Wait;
 use std::thread;
 use std::thread::Threads;
-use step_core::{Config, Reaped, Refused, World};
+use step_core::{Reaped, Refused, World};
 use test_support::{Refusal, Refusing};
-
-/// 8 pages that no queue owns, of which a Read of three blocks takes 4, and 3 identifiers.
-const SMALL: Config = Config {
-    pages: 12,
-    queues: 1,
-    entries: 4,
-    segment: 256,
-};
 
 /// How many threads read.
 const READERS: usize = 6;
@@ -39,7 +32,7 @@ pub(crate) fn done<T, V, R: Abort>(rt: &R, answer: Result<T, Refused<V>>) -> T {
     }
 }
 
-/// A Read of so many of the first blocks, each in a piece of its own.
+/// A Read of this many of the first blocks, each in a piece of its own.
 pub(crate) fn read_of<A: Allocator + Copy, R: Abort>(rt: &R, alloc: A, blocks: u32) -> Request<A> {
     match job(alloc, 1, Kind::Read, 0, blocks, &[]) {
         Ok(
@@ -66,7 +59,7 @@ pub(crate) fn opened<A: Allocator + Copy, R: Abort>(rt: &R, alloc: A) -> Shared<
     }
 }
 
-/// Submits a Read of so many blocks, once there is room for it, and rings.
+/// Submits a Read of this many blocks, once there is room for it, and rings.
 pub(crate) fn submitted<A: Allocator + Copy, R: Abort + Wait>(
     rt: &R,
     alloc: A,
@@ -93,7 +86,7 @@ pub(crate) fn cancelled<A: Allocator + Copy, R: Abort + Wait>(
     done(rt, cancelled);
 }
 
-/// Collects a Read of so many blocks of sevens, once it has ended, and releases it.
+/// Collects a Read of this many blocks of sevens, once it has ended, and releases it.
 fn released<A: Allocator + Copy, R: Abort + Wait>(
     rt: &R,
     alloc: A,
@@ -114,7 +107,7 @@ fn released<A: Allocator + Copy, R: Abort + Wait>(
     done(rt, released);
 }
 
-/// Reads three blocks, time after time, and takes a Read back before each.
+/// Reads three blocks, time after time, and cancels a Read before each.
 fn read_often<R: Abort + Wait>(rt: &R, alloc: Global, shared: &Shared<World>) {
     for _ in 0..READS {
         let draft = done(rt, shared.reserve_when_free(rt, 1, read_of(rt, alloc, 3)));

@@ -3,7 +3,7 @@
 ghost use Rattle.std.specs.Prelude.{◌≡◌};
 ghost use Rattle.step_core.specs.Opening.{opening_of};
 
-use crate::looks::{comes, see};
+use crate::looks::{comes, let_sleep, see};
 use crate::part::{USUAL, opened, play_text};
 use block_image::Image;
 use driver_book::{BlankBook, Full, FullLogBrand, LogBrand};
@@ -20,7 +20,7 @@ use std::sync::Wait;
 use std::sync::atomic::{AtomicBool, Ordering};
 use std::thread;
 use std::thread::Threads;
-use std::time::{Clock, Duration};
+use std::time::Clock;
 use step_core::Config;
 
 /// A call that is made while a submitter sleeps. Each number is that of a queue, and each command has identifier 0.
@@ -63,7 +63,7 @@ enum End {
     Refused(JobRefusal),
 }
 
-/// A submitter that sleeps, and the calls of which the last one ends what it waits for. All of its jobs are on queue 1.
+/// A submitter that sleeps, and the calls, the last of which ends what it waits for. All of its jobs are on queue 1.
 #[derive(Clone, Copy)]
 struct Waking {
     /// What wakes whom.
@@ -80,7 +80,7 @@ struct Waking {
     calls: &'static [Call],
     /// How each job ends.
     ends: &'static [End],
-    /// How many entries the log has then, of which no wait made one.
+    /// How many entries the log has then; no wait made one.
     entries: usize,
 }
 
@@ -89,10 +89,6 @@ const TWO_QUEUES: Config = Config { queues: 2, ..USUAL };
 
 /// How often each wait is tried. In a single try a thread might not sleep yet as the last call is made.
 const ROUNDS: u32 = 3;
-
-/// How many milliseconds the threads have before each call until they sleep. Where that is too short nothing comes out otherwise: a queue whose
-/// command is to be fetched is rung once more.
-const ASLEEP: u64 = 50;
 
 /// How far the submitter has come.
 #[derive(Drop)]
@@ -135,7 +131,7 @@ reserve 1 read 0 1 0+512
 > counts free 7 queue 6 chain 0 data 3
 ";
 
-/// It waits for an identifier. There is no queue any more then, for its next job neither.
+/// It waits for an identifier. There is no queue any more then, nor one for its next job.
 const QUEUE_GOES: Waking = Waking {
     name: "a reset, for an identifier",
     before: &[NO_IDENTIFIER],
@@ -505,7 +501,7 @@ fn woken<L: FullLogBrand + Send + Sync, R: Abort + Threads + Wait + Clock + Sync
             waking.name
         );
         for call in waking.calls {
-            thread::sleep(rt, Duration::from_millis(ASLEEP));
+            let_sleep(rt);
             assert!(rt; is_accepted(rt, shared, values, *call), "{}", waking.name);
         }
         assert!(rt; comes(rt, &told.back), "{}", waking.name);

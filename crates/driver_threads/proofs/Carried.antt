@@ -107,7 +107,7 @@ known_on bytes_of opening seat next (j ∷ jobs) [] same knows all = absurd all
 known_on bytes_of opening seat next (j ∷ jobs) (x ∷ receipts) same knows all =
     (of_number bytes_of opening seat.number next.number j x same all.0, stands_on seat.known next.known x.number (prepared (bytes_of j.bytes) all.0.draft) knows all.1, known_on bytes_of opening seat next jobs receipts same knows all.2)
 
--- the number of a receipt behind others
+-- the number of a receipt after others
 number_behind : (ended awaited : List Receipt) (r : Receipt) → number_of (ended ++ r ∷ awaited) (length ended) ≡ r.number
 number_behind [] awaited r = refl
 number_behind (x ∷ ended) awaited r = number_behind ended awaited r
@@ -126,7 +126,7 @@ none_left bytes_of Keeps opening seat done [] jobs ended [] receipts ends jobs_a
 none_left bytes_of Keeps opening seat done (j ∷ left) jobs ended [] receipts ends jobs_are are went submitted await = absurd submitted
 none_left bytes_of Keeps opening seat done left jobs ended (r ∷ awaited) receipts ends jobs_are are went submitted await = absurd await
 
--- once nothing is in flight, all of them went so
+-- once nothing is in flight, all of them went this way
 pub carries_landed : {D K : Type 0} (bytes_of : BytesOf D) (Keeps : KeepsOf D K) (opening : State) (seat : SeatContents) (ends : List (EndOf K)) (flying : List (FlyingOf D)) (n : ℕ) (jobs : List (JobOf D))
     → n ≡ length flying → n ≡ 0 → Carries bytes_of Keeps opening seat ends flying jobs → WentBy bytes_of Keeps opening seat.number jobs seat.receipts ends
 carries_landed bytes_of Keeps opening seat ends flying n jobs long none c =
@@ -337,7 +337,7 @@ fits_push Holds [] (w ∷ ys) x y all one = absurd all
 fits_push Holds (z ∷ xs) [] x y all one = absurd all
 fits_push Holds (z ∷ xs) (w ∷ ys) x y all one = (all.0, fits_push Holds xs ys x y all.1 one)
 
--- one submitter more was started
+-- one more submitter was started
 pub begun_more : {D H X : Type 0} (jobs_of : H → List (JobOf D)) (items : X → List (JobOf D)) (handles : List H) (h : H) (rest later : List X) (x : X) (all : List (List (JobOf D))) → map jobs_of handles ++ map items rest ≡ all
     → rest ≡ x ∷ later → jobs_of h ≡ items x → map jobs_of (handles ++ h ∷ []) ++ map items later ≡ all
 begun_more {D} jobs_of items handles h rest later x all were is same =
@@ -362,7 +362,7 @@ pub handed_all : {D K : Type 0} (bytes_of : BytesOf D) (Keeps : KeepsOf D K) {R 
 handed_all bytes_of Keeps opening Holds lists results yielded reports ends all long first went =
     went lists (fits_all Holds lists yielded long (subst (λ rs. HoldsOfEach Holds lists rs) (sym all) first))
 
--- a submission that was refused left the seat as it was, but for room
+-- a submission that was refused left the seat as it was, except for room
 pub carries_same : {D K : Type 0} (bytes_of : BytesOf D) (Keeps : KeepsOf D K) (opening : State) (seat next : SeatContents) (ends : List (EndOf K)) (flying : List (FlyingOf D)) (jobs : List (JobOf D)) → next.receipts ≡ seat.receipts → next.number ≡ seat.number → next.known ≡ seat.known
     → Carries bytes_of Keeps opening seat ends flying jobs → Carries bytes_of Keeps opening next ends flying jobs
 carries_same bytes_of Keeps opening seat next ends flying jobs receipts number known c = record {
@@ -386,7 +386,7 @@ pub at_most : {T E : Type 0} (r : Result T E) (many all : ℕ) → OnOk r (many 
 at_most (Ok v) many all same fewer = omega (arith, same)
 at_most (Err e) many all same fewer = omega (arith, fewer)
 
--- where all have ended, all of them went so
+-- where all have ended, all of them went this way
 pub landed_so : {D K : Type 0} (bytes_of : BytesOf D) (Keeps : KeepsOf D K) {T E : Type 0} (r : Result T E) (opening : State) (seat next : SeatContents) (ends later : List (EndOf K)) (flying left : List (FlyingOf D)) (jobs : List (JobOf D)) (n : ℕ) → n ≡ length left
     → OnOk r (n ≡ 0) → OnOk r (CarriesOn bytes_of Keeps opening seat ends flying next later left) → Carries bytes_of Keeps opening seat ends flying jobs → OnOk r (WentBy bytes_of Keeps opening next.number jobs next.receipts later)
 landed_so bytes_of Keeps (Ok v) opening seat next ends later flying left jobs n long none on c = carries_landed bytes_of Keeps opening next later left n jobs long none (on jobs c)
@@ -396,7 +396,7 @@ pub under_condition : {T E : Type 0} (A B : Type 0) (r : Result T E) → (A → 
 under_condition A B (Ok v) f = f
 under_condition A B (Err e) f = tt
 
--- One submitter more hands in its seat and its ends
+-- One more submitter hands in its seat and its ends
 
 pub same_push : {X Y Z : Type 0} (f : X → Z) (g : Y → Z) (xs : List X) (ys : List Y) (x : X) (y : Y) → map f xs ≡ map g ys → f x ≡ g y → map f (xs ++ x ∷ []) ≡ map g (ys ++ y ∷ [])
 same_push f g xs ys x y are same =

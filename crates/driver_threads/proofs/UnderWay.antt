@@ -27,21 +27,21 @@ cid_of f = option_map_or (λ f. f.cid) f 0
 
 -- what is made of a record has its queue and identifier
 made : (s : State) (r : Record) (f : FinishedContents) → finished_from s r ≡ Some f → (f.q ≡ r.q) × (f.cid ≡ r.cid)
-made s r f h = go (asked_by r.work) r.status h
+made s r f h = by_request (asked_by r.work) r.status h
   where
-    go : (asked : Option Request) (status : Option Status)
+    by_request : (asked : Option Request) (status : Option Status)
         → option_and_then (λ request. option_map (λ st. record { q = r.q; cid = r.cid; request = request; status = st; hints = r.hints; data_pages = pages_with_bytes s.memory r.data_pages; chain_pages = pages_with_bytes s.memory r.chain_pages }) status) asked ≡ Some f
         → (f.q ≡ r.q) × (f.cid ≡ r.cid)
-    go None status h = cc
-    go (Some request) None h = cc
-    go (Some request) (Some st) h = (sym (ap q_of h), sym (ap cid_of h))
+    by_request None status h = cc
+    by_request (Some request) None h = cc
+    by_request (Some request) (Some st) h = (sym (ap q_of h), sym (ap cid_of h))
 
 named : (s : State) (q cid : ℕ) (f : FinishedContents) → option_and_then (finished_from s) (find (is_at q cid) s.host.records) ≡ Some f → (f.q ≡ q) × (f.cid ≡ cid)
-named s q cid f h = go (find (is_at q cid) s.host.records) (found_is (is_at q cid) s.host.records) h
+named s q cid f h = by_record (find (is_at q cid) s.host.records) (found_is (is_at q cid) s.host.records) h
   where
-    go : (o : Option Record) → ((r : Record) → o ≡ Some r → is_at q cid r ≡ true) → option_and_then (finished_from s) o ≡ Some f → (f.q ≡ q) × (f.cid ≡ cid)
-    go None is h = cc
-    go (Some r) is h =
+    by_record : (o : Option Record) → ((r : Record) → o ≡ Some r → is_at q cid r ≡ true) → option_and_then (finished_from s) o ≡ Some f → (f.q ≡ q) × (f.cid ≡ cid)
+    by_record None is h = cc
+    by_record (Some r) is h =
         let both = both_true (r.q == q) (r.cid == cid) (is r refl) in
         let same = made s r f h in
         (same.0 ∙ eqb-true r.q q both.0, same.1 ∙ eqb-true r.cid cid both.1)
@@ -80,7 +80,7 @@ none_open receipts ends agree = open_statuses receipts ∙ ap (λ (xs : List (Op
 
 -- Receipts
 
--- the first receipt that is open for a command stands behind those that are not open
+-- the first receipt that is open for a command comes after those that are not open
 found_from : (q cid number i : ℕ) (asked : Asked) (old rest : List Receipt) → list_any (λ (r : Receipt). is_none r.status) old ≡ false
     → position_from (is_open_for q cid) i (old ++ receipt number q cid asked None ∷ rest) ≡ Some (i + length old)
 found_from q cid number i asked [] rest none = rw (eq-eqb q q refl, eq-eqb cid cid refl) (ap (λ (n : ℕ). Some n) (omega arith))
@@ -111,7 +111,7 @@ pub statuses_push : (old : List Receipt) (r : Receipt) → statuses_of (old ++ r
 statuses_push [] r = refl
 statuses_push (x ∷ old) r = ap (λ (xs : List (Option Status)). x.status ∷ xs) (statuses_push old r)
 
--- one job more ended ..
+-- one more job ended ..
 pub agree_more : {K : Type 0} (old new : List Receipt) (ends : List (EndOf K)) (e : EndOf K) → Agree old ends → statuses_of new ≡ statuses_of old ++ ends_of (e ∷ []) → Agree new (ends ++ e ∷ [])
 agree_more old new ends e agree more = more ∙ ap (λ (xs : List (Option Status)). xs ++ ends_of (e ∷ [])) agree ∙ sym (ends_push ends e)
 
@@ -142,7 +142,7 @@ all_ended_under_way D (r ∷ awaited) ended receipts ends are agree await = absu
 pub landed : {D K : Type 0} (receipts : List Receipt) (ends : List (EndOf K)) (flying : List (FlyingOf D)) (n : ℕ) → n ≡ length flying → n ≡ 0 → IsUnderWay receipts ends flying → Agree receipts ends
 landed {D} receipts ends flying n long none u = all_ended_under_way D u.awaited u.ended receipts ends u.receipts_are u.agree (rw (sym (none_is flying n long none)) u.await)
 
--- One command more
+-- One more command
 
 pub await_push : {D : Type 0} (awaited : List Receipt) (flying : List (FlyingOf D)) (number : ℕ) (asked : Asked) (f : FlyingOf D) → AwaitEach awaited flying → AwaitEach (awaited ++ receipt number f.ticket.q f.ticket.cid asked None ∷ []) (flying ++ f ∷ [])
 await_push [] [] number asked f await = (refl, tt)
@@ -235,13 +235,13 @@ one_refused receipts ends flying why u = record {
   await = u.await;
 }
 
--- Lists of submitters, one behind the other.
+-- Lists of submitters, one after the other.
 
 pub behind_none : {A : Type 0} (xs : List (List A)) → behind xs [] ≡ xs
 behind_none [] = refl
 behind_none (x ∷ xs) = refl
 
--- one list more
+-- one more list
 pub behind_more : {A : Type 0} (old ys : List (List A)) (y : List A) → behind old (ys ++ y ∷ []) ≡ added (behind old ys) (length ys) y
 behind_more {A} [] [] y = refl
 behind_more {A} [] (z ∷ ys) y = ap (λ (zs : List (List A)). z ∷ zs) (behind_more [] ys y)
@@ -253,14 +253,14 @@ behind_long [] ys = omega arith
 behind_long (x ∷ old) [] = omega arith
 behind_long (x ∷ old) (y ∷ ys) = let rest = behind_long old ys in omega arith
 
--- the list at a place grew
+-- the list at an index grew
 pub added_there : {X A : Type 0} (items : X → List A) (lists : List X) (i : ℕ) (list new : X) (later : List A) → i < length lists → list ≡ get_or lists i list → items new ≡ items list ++ later
     → map items (slice_set lists i new) ≡ added (map items lists) i later
 added_there items [] i list new later within is more = absurd (omega (arith, within))
 added_there items (x ∷ lists) zero list new later within is more = ap (λ ys. ys ∷ map items lists) (more ∙ ap (λ y. items y ++ later) is)
 added_there items (x ∷ lists) (suc i) list new later within is more = ap (λ ls. items x ∷ ls) (added_there items lists i list new later (omega (arith, within)) is more)
 
--- one list more stands behind them
+-- one more list comes after them
 pub added_last : {X A : Type 0} (items : X → List A) (lists : List X) (i : ℕ) (list : X) → i ≡ length lists → map items (lists ++ list ∷ []) ≡ added (map items lists) i (items list)
 added_last items [] i list at = refl
 added_last items (x ∷ lists) zero list at = absurd (omega (arith, at))

@@ -24,15 +24,15 @@ Agree receipts ends = statuses_of receipts ≡ ends_of ends
 abbrev pub AllAgree : {K : Type 0} → List (List Receipt) → List (List (EndOf K)) → Type 0
 AllAgree receipts ends = map statuses_of receipts ≡ map ends_of ends
 
--- the status of the receipt at a place
+-- the status of the receipt at an index
 abbrev pub status_of : List Receipt → ℕ → Option Status
 status_of receipts place = option_and_then (λ r. r.status) (slice_get receipts place)
 
--- one receipt more, for the command of a ticket, without a status
+-- one more receipt, for the command of a ticket, without a status
 abbrev pub Awaits : List Receipt → TicketContents → List Receipt → Type 0
 Awaits old ticket new = (number : ℕ) × (asked : Asked) × (new ≡ old ++ receipt number ticket.q ticket.cid asked None ∷ [])
 
--- the command's receipt got a status, and the job's end is what the receipt at this place says
+-- the command's receipt got a status, and the job's end is what the receipt at this index says
 abbrev pub EndsWith : {K : Type 0} → List Receipt → ℕ → ℕ → ℕ → EndOf K → List Receipt → Type 0
 EndsWith old q cid place end new = (status : Option Status) × (new ≡ settled q cid status old) × (ends_of (end ∷ []) ≡ status_of new place ∷ [])
 

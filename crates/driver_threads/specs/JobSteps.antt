@@ -24,7 +24,7 @@ Refusing Cause halt.Memory = Unit {0}
 abbrev pub IsRefusal : Halt → JobRefusal → Type 0
 IsRefusal said cause = said ≡ halt.Refused cause
 
--- there are more bytes than the data pieces of a request take, which is no Read
+-- there are more bytes than the data pieces of a request take, which is not a Read
 abbrev pub IsTooLong : List ℕ → Request → JobRefusal → Type 0
 IsTooLong bytes request cause = (cause ≡ why.WrongLength) × (request.kind ≢ Read) × (sum_by data_length request.pieces < length bytes)
 
@@ -45,7 +45,7 @@ abbrev pub number_or : Option Receipt → ℕ
 number_or None = 0
 number_or (Some r) = r.number
 
--- the end of a job with these data whose command is this one: what was kept of it, and the status of the receipt at this place
+-- the end of a job with these data whose command is this one: what was kept of it, and the status of the receipt at this index
 pub record IsEndOf {D K : Type 0} (Keeps : KeepsOf D K) (given : D) (command : FinishedContents) (receipts : List Receipt) (place : ℕ) (end : EndOf K) : Type 0 where
   pub status : Status
   pub kept : K
@@ -53,12 +53,12 @@ pub record IsEndOf {D K : Type 0} (Keeps : KeepsOf D K) (given : D) (command : F
   pub keeps : Keeps given command kept
   pub told : status_of receipts place ≡ Some status
 
--- the number of the receipt at a place
+-- the number of the receipt at an index
 abbrev pub number_of : List Receipt → ℕ → ℕ
 number_of receipts place = number_or (slice_get receipts place)
 
--- The command with this identifier was given up: some book of this opening collected it, as that of the receipt at this place, some book released
--- it for this seat, and the end is that of the command.
+-- The command with this identifier was given up: some book of this opening collected it, as that of the receipt at this index, some book released it for this seat,
+-- and the end is that of the command.
 pub record GivesUp {D K : Type 0} (Keeps : KeepsOf D K) (opening : State) (seat : SeatContents) (q cid : ℕ) (given : D) (place : ℕ) (end : EndOf K) (next : SeatContents) : Type 0 where
   pub command : FinishedContents
   pub collected : Collected opening seat (number_of seat.receipts place) q cid command
@@ -71,8 +71,8 @@ pub record GivesUp {D K : Type 0} (Keeps : KeepsOf D K) (opening : State) (seat 
 abbrev pub data_of : {D : Type 0} → List (JobOf D) → List D
 data_of jobs = map (λ job. job.bytes) jobs
 
--- A submitter carries these jobs: the first of them went so, with the first receipts, and have these ends; the others are in flight, and have the
--- other receipts.
+-- A submitter carries these jobs: the first of them went this way, with the first receipts, and have these ends; the others are in flight, and have the other
+-- receipts.
 pub record Carries {D K : Type 0} (bytes_of : BytesOf D) (Keeps : KeepsOf D K) (opening : State) (seat : SeatContents) (ends : List (EndOf K)) (flying : List (FlyingOf D)) (jobs : List (JobOf D)) : Type 0 where
   pub done : List (JobOf D)
   pub left : List (JobOf D)
@@ -90,18 +90,18 @@ abbrev pub CarriesOn : {D K : Type 0} → BytesOf D → KeepsOf D K → State �
 CarriesOn {D} bytes_of Keeps opening seat ends flying next later still =
     (jobs : List (JobOf D)) → Carries bytes_of Keeps opening seat ends flying jobs → Carries bytes_of Keeps opening next later still jobs
 
--- and one job more
+-- and one more job
 abbrev pub CarriesAlso : {D K : Type 0} → BytesOf D → KeepsOf D K → State → SeatContents → List (EndOf K) → List (FlyingOf D) → JobOf D → SeatContents → List (EndOf K) → List (FlyingOf D) → Type 0
 CarriesAlso {D} bytes_of Keeps opening seat ends flying job next later still =
     (jobs : List (JobOf D)) → Carries bytes_of Keeps opening seat ends flying jobs → Carries bytes_of Keeps opening next later still (jobs ++ job ∷ [])
 
--- and any job more that is refused for this cause
+-- and any further job that is refused for this cause
 abbrev pub CarriesRefused : {D K : Type 0} → BytesOf D → KeepsOf D K → State → SeatContents → List (EndOf K) → List (FlyingOf D) → JobRefusal → SeatContents → List (EndOf K) → List (FlyingOf D) → Type 0
 CarriesRefused {D} bytes_of Keeps opening seat ends flying cause next later still =
     (job : JobOf D) → RefusesJob bytes_of opening job cause → CarriesAlso bytes_of Keeps opening seat ends flying job next later still
 
 -- What threads give back
 
--- this holds of each result and the argument at its place, of which there are as many or more
+-- this holds of each result and the argument at its index; there are at least as many arguments
 abbrev pub HoldsOfEach : {A R : Type 0} → (A → R → Type 0) → List A → List R → Type 0
 HoldsOfEach Holds arguments results = AllZip Holds (take (length results) arguments) results

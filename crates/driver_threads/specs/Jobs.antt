@@ -12,7 +12,7 @@ use Rattle.machine_model.specs.declared.words.Refusal.TheVariants as refusal
 
 -- The draft of a job
 
--- its data pages, with the bytes of the job from the first data piece on, and zeros behind them
+-- its data pages, with the bytes of the job starting at the first data piece, and zeros after them
 abbrev pub padded : Request → List ℕ → PagesOut → PagesOut
 padded r bytes pages = filled r.pieces pages (bytes ++ replicate (sum_by data_length r.pieces - length bytes) 0)
 
@@ -96,7 +96,7 @@ RefusesToReserve book q request why.OtherBlocks = refusal_of book.world (events.
 RefusesToReserve book q request (why.NoPages need pool) = LacksPages book q request need pool
 RefusesToReserve book q request why.WrongLength = ⊥
 
--- a book's queue takes a draft no more: it is not live any more, or its ring is full
+-- a book's queue no longer takes a draft: it is no longer live, or its ring is full
 abbrev pub RefusesToSubmit : BookContents → DraftContents → Type 0
 RefusesToSubmit book d = (refusal_of book.world (events.Submit d) ≡ Some refusal.QueueGone) ⊎ (refusal_of book.world (events.Submit d) ≡ Some refusal.QueueFull)
 
@@ -112,7 +112,7 @@ pub record RefusesDraft (opening : State) (d : DraftContents) : Type 0 where
   pub of : IsBookOf opening book
   pub refuses : RefusesToSubmit book d
 
--- a job that was reserved is refused for its own bytes, or where its queue takes its draft no more
+-- a job that was reserved is refused for its own bytes, or where its queue no longer takes its draft
 abbrev pub RefusesReserved : {D : Type 0} → BytesOf D → State → JobOf D → DraftContents → JobRefusal → Type 0
 RefusesReserved bytes_of opening job draft why.WrongLength = (job.request.kind ≢ Read) × (sum_by data_length job.request.pieces < length (bytes_of job.bytes))
 RefusesReserved bytes_of opening job draft why.QueueGone = RefusesDraft opening (prepared (bytes_of job.bytes) draft)
@@ -131,8 +131,8 @@ RefusesJob bytes_of opening job cause = RefusesRequest opening job.q job.request
 
 -- All jobs of a submitter
 
--- HOW THE JOBS WENT, in their order, beside the receipts of their seat and their ends: a refused job has no receipt; each other one has the next
--- receipt, was submitted with it, and ended with what was kept of its command.
+-- HOW THE JOBS WENT, in their order, beside the receipts of their seat and their ends: a refused job has no receipt; each other job has the next receipt, was
+-- submitted with it, and ended with what was kept of its command.
 abbrev pub WentBy : {D K : Type 0} → BytesOf D → KeepsOf D K → State → ℕ → List (JobOf D) → List Receipt → List (EndOf K) → Type 0
 WentBy bytes_of Keeps opening seat [] [] [] = Unit {0}
 WentBy bytes_of Keeps opening seat (job ∷ jobs) receipts (Refused cause ∷ ends) = RefusesJob bytes_of opening job cause × WentBy bytes_of Keeps opening seat jobs receipts ends

@@ -13,8 +13,7 @@ pub record RanFrom (opening : State) (report : Report) (book : BookContents) : T
   pub closed : Closes opening report seats before
   pub same : book ≡ record before { out = 0; taken = accepted before.log }
 
--- A round over a world that was there: a book of this opening was closed with some seats; the report is its report, the log is its log, and the
--- world its world.
+-- A round over an existing world: a book of this opening was closed with some seats; the report is its report, the log is its log, and the world its world.
 pub record EndsRound (opening : State) (log : LogContents) (report : Report) (world : WorldContents) : Type 0 where
   pub seats : List SeatContents
   pub book : BookContents

@@ -1,4 +1,4 @@
--- Jobs and their ends, as contracts see them: with requests and lists, wherever their bytes stand.
+-- Jobs and their ends, as contracts see them: with requests and lists, wherever their bytes are.
 use Rattle.std.specs.Prelude.{ℕ, List}
 use Rattle.io_commands.specs.Asked.{Request}
 use Rattle.driver_threads.specs.declared.jobs.Job as declared_job

@@ -101,7 +101,7 @@ impl<L: FullLogBrand, A: Allocator + Copy> Shared<L, A> {
         )
     }
 
-    /// [`driver_book::Book::reset`]. Whoever waits is woken: a submitter whose command the reset ended goes on as behind a reap.
+    /// [`driver_book::Book::reset`]. Whoever waits is woken: a submitter whose command the reset ended goes on as after a reap.
     ///
     /// # Errors
     ///

@@ -15,12 +15,12 @@ use std::sync::Wait;
 /// A book under the driver's lock. Each call but [`Shared::new`] and [`Shared::end`] makes one step of it, looks at it, makes a seat, or stops
 /// or closes it, while it has the lock.
 ///
-/// Who waits sleeps on a condition variable, looks at the book as it wakes, and makes its step once it would be answered otherwise. A call
-/// tells those alone who wait for what it may have changed.
+/// Whoever waits sleeps on a condition variable, looks at the book as it wakes, and makes its step once it would be answered differently. A call
+/// tells only those who wait for what it may have changed.
 #[derive(Drop)]
 pub struct Shared<L: LogBrand, A: Allocator = Global> {
     pub(crate) lock: shared::Shared<Book<L, A>>,
-    /// Who serves behind the ring of a submitter.
+    /// Who serves after the ring of a submitter.
     pub(crate) server: Server,
 }
 

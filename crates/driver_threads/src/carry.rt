@@ -71,7 +71,7 @@ fn prepare<A: Allocator + Copy, K, D: Data<K, A>>(
     }
 }
 
-/// Gives a draft up: a refused job leaves nothing, and who stops spends what he holds.
+/// Gives a draft up: a refused job leaves nothing, and whoever stops spends what they hold.
 fn give_up<L: LogBrand, A: Allocator + Copy, R: Wait>(
     rt: &R,
     shared: &Shared<L, A>,
@@ -113,8 +113,8 @@ pub(crate) fn prepared<L: LogBrand, A: Allocator + Copy, K, D: Data<K, A>, R: Wa
     }
 }
 
-/// Why a submission was refused: a queue that takes no more commands refuses the job. Of a draft that somebody else has submitted or given up
-/// there is no more to be done.
+/// Why a submission was refused: a queue that takes no more commands refuses the job. There is no more to be done about a draft that somebody else
+/// has submitted or given up.
 fn halt_of(why: Refusal) -> Halt
     ensures { Refusing (TakesNoMore why) result }
 {
@@ -125,7 +125,7 @@ fn halt_of(why: Refusal) -> Halt
     }
 }
 
-/// Submits a draft for a seat and rings its queue, while the lock is held once. Where who rings serves, it does so in the same hold.
+/// Submits a draft for a seat and rings its queue, while the lock is held once. Where submitters that ring serve, it does so in the same hold.
 pub(crate) fn submitted<L: LogBrand, A: Allocator + Copy, R: Wait>(
     rt: &R,
     shared: &Shared<L, A>,
@@ -161,7 +161,7 @@ pub(crate) fn submitted<L: LogBrand, A: Allocator + Copy, R: Wait>(
     Ok(ticket)
 }
 
-/// The number of the receipt at a place.
+/// The number of the receipt at an index.
 fn number_of(receipts: &[Receipt], place: usize) -> u64
     ensures { result ≡ spec_number_of receipts.now place }
 {
@@ -171,15 +171,15 @@ fn number_of(receipts: &[Receipt], place: usize) -> u64
     }
 }
 
-/// The status of the receipt at a place.
+/// The status of the receipt at an index.
 fn status_of(receipts: &[Receipt], place: usize) -> Option<Status>
     ensures { result ≡ spec_status_of receipts.now place }
 {
     receipts.get(place).and_then(|receipt| receipt.status)
 }
 
-/// Keeps what the data of a job want of its finished command, and releases it. No lock is held while they look at it. The command ended as
-/// the receipt at this place of the seat's says.
+/// Keeps what the data of a job want of its finished command, and releases it. No lock is held while they look at it. The command ended as the seat's
+/// receipt at this index says.
 fn released<L: LogBrand, A: Allocator + Copy, K: Drop, D: Data<K, A>, R: Wait>(
     rt: &R,
     alloc: A,
@@ -212,8 +212,8 @@ fn released<L: LogBrand, A: Allocator + Copy, K: Drop, D: Data<K, A>, R: Wait>(
     }
 }
 
-/// Finishes a command: waits for its end, collects, keeps what its job's data want of it, releases. It ended as the receipt at this place of the
-/// seat's says.
+/// Finishes a command: waits for its end, collects, keeps what its job's data want of it, releases. It ended as the seat's receipt at this index
+/// says.
 ///
 /// # Errors
 ///

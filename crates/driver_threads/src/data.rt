@@ -1,4 +1,4 @@
-//! What the data of a job are: bytes that stand in memory, or what makes them and looks at what comes back.
+//! What the data of a job are: bytes in memory, or what makes them and looks at what comes back.
 
 ghost use Rattle.std.specs.Prelude.{◌≡◌, ◌≢◌, ◌<◌, length, sum_by, IfOk, OnOk, Err};
 ghost use Rattle.io_commands.specs.DataBytes.{data_length};
@@ -35,7 +35,7 @@ pub trait Data<K, A: Allocator> {
     ///
     /// # Errors
     ///
-    /// `WrongLength` only where it is no Read, and there are more bytes than its data pieces take. `Memory` where memory is refused.
+    /// `WrongLength` only where it is not a Read, and there are more bytes than its data pieces take. `Memory` where memory is refused.
     fn fill(&self, alloc: A, draft: &mut Draft<A>) -> Result<(), Unfilled>
         ensures filled { OnOk result (draft.new ≡ with_bytes_of draft.old.request.kind (bytes self.now) draft.old) }
         ensures too_long { result ≡ Err Unfilled.WrongLength → (draft.old.request.kind ≢ Read) × (sum_by data_length draft.old.request.pieces < length (bytes self.now)) };

@@ -1,4 +1,4 @@
-//! Commands in flight: a submitter has submitted and rung them, and not collected them yet.
+//! Commands in flight: a submitter has submitted and announced them, and not collected them yet.
 
 ghost use Rattle.std.specs.Prelude.{◌≡◌, ◌+◌, ◌-◌, ◌<◌, ◌≤◌, [], None, true, false, vec_len, IfOk, IfErr, OnOk, OnErr};
 ghost use Rattle.std.specs.VecDeque.{deque_len, deque_capacity};
@@ -29,7 +29,7 @@ pub(crate) struct Flying<D> {
 /// A submitter's seat, the commands that it has in flight, and how its jobs ended so far.
 pub(crate) struct Flight<L: LogBrand, A: Allocator, D, K> {
     pub(crate) seat: Seat<L, A>,
-    /// The commands in flight, the oldest first. There is a place for each command that may be in flight.
+    /// The commands in flight, the oldest first. There is a slot for each command that may be in flight.
     pub(crate) flying: VecDeque<Flying<D>, A>,
     /// How its jobs ended, in their order.
     pub(crate) ends: Vec<JobEnd<K>, A>,
@@ -99,7 +99,7 @@ impl<L: LogBrand, A: Allocator + Copy, K: Drop, D: Data<K, A> + Drop> Flight<L, 
         Ok(())
     }
 
-    /// Finishes the oldest command in flight where each place is taken.
+    /// Finishes the oldest command in flight where each slot is taken.
     ///
     /// # Errors
     ///
@@ -126,7 +126,7 @@ impl<L: LogBrand, A: Allocator + Copy, K: Drop, D: Data<K, A> + Drop> Flight<L, 
         self.finish_oldest(rt, alloc, shared, watch)
     }
 
-    /// Reserves for a request. As long as it has to wait, the oldest command in flight is finished; it waits once nothing is in flight.
+    /// Reserves for a request. While it has to wait, it finishes the oldest command in flight; it waits once nothing is in flight.
     ///
     /// # Errors
     ///
@@ -202,7 +202,7 @@ impl<L: LogBrand, A: Allocator + Copy, K: Drop, D: Data<K, A> + Drop> Flight<L, 
         Ok(())
     }
 
-    /// Finishes all commands in flight, and notes that the job behind them is refused.
+    /// Finishes all commands in flight, and notes that the job after them is refused.
     ///
     /// # Errors
     ///
@@ -259,11 +259,11 @@ impl<L: LogBrand, A: Allocator + Copy, K: Drop, D: Data<K, A> + Drop> Flight<L, 
         }
     }
 
-    /// Carries jobs through, as many of them in flight at a time as there are places, and notes how each ended.
+    /// Carries jobs through, as many of them in flight at a time as there are slots, and notes how each ended.
     ///
     /// # Errors
     ///
-    /// As [`Flight::finish_oldest`]. The jobs from the first one that is cut off on have no end then.
+    /// As [`Flight::finish_oldest`]. The first job that is cut off and those after it have no end then.
     pub(crate) fn carry_all<G: Gate, R: Wait>(
         &mut self,
         rt: &R,

@@ -7,7 +7,7 @@ use thiserror::Error;
 pub enum Point {
     /// It has its draft, which is not filled yet.
     Reserved,
-    /// Its draft was submitted, and its queue rung.
+    /// Its draft was submitted, and its queue's doorbell written.
     Submitted,
     /// Its command was released.
     Released,

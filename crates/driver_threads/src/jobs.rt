@@ -18,12 +18,12 @@ pub struct Job<R = Request, B = Bytes> {
     pub q: u16,
     /// What is asked for.
     pub request: R,
-    /// The data of a Write, a Compare or a Deallocate, or what makes them ([`Data`](crate::Data)); where they are shorter than the data pieces, zeros stand
-    /// after them. A Read has none, and what stands here of it is not written.
+    /// The data of a Write, a Compare or a Deallocate, or what makes them ([`Data`](crate::Data)); where they are shorter than the data pieces, zeros
+    /// follow them. A Read has none, and what is here for one is not written.
     pub bytes: B,
 }
 
-/// A job whose request and bytes stand in the memory of one allocator.
+/// A job whose request and bytes are in the memory of one allocator.
 pub type JobIn<A> = Job<Request<A>, Bytes<A>>;
 
 /// How a job ended.
@@ -33,15 +33,15 @@ pub enum JobEnd<B = Bytes> {
     Done {
         /// How the command ended.
         status: Status,
-        /// What it gathered: a Read's data pieces joined in order, and nothing of another kind. Where the job's data keep
-        /// something else ([`Data`](crate::Data)), that.
+        /// What it gathered: a Read's data pieces joined in order, and nothing for another kind. Where the job's data keep something else
+        /// ([`Data`](crate::Data)), that.
         bytes: B,
     },
     /// It was refused, and left nothing.
     Refused(JobRefusal),
 }
 
-/// The end of a job whose bytes stand in the memory of one allocator.
+/// The end of a job whose bytes are in the memory of one allocator.
 pub type JobEndIn<A> = JobEnd<Bytes<A>>;
 
 /// Why a job was refused.
@@ -73,7 +73,7 @@ pub enum JobRefusal {
     WrongLength,
 }
 
-/// Adds ends of a submitter behind those that it has, or as those of the next submitter.
+/// Adds ends of a submitter after those that it has, or as those of the next submitter.
 fn add_ends<A: Allocator, K: Drop>(
     lists: &mut Vec<Vec<JobEnd<K>, A>, A>,
     submitter: usize,
@@ -91,7 +91,7 @@ fn add_ends<A: Allocator, K: Drop>(
     Ok(())
 }
 
-/// Adds ends of submitters: each submitter's behind those that it has.
+/// Adds ends of submitters: each submitter's after those that it has.
 fn add_all<A: Allocator, K: Drop>(
     lists: &mut Vec<Vec<JobEnd<K>, A>, A>,
     later: Vec<Vec<JobEnd<K>, A>, A>,
@@ -129,7 +129,7 @@ impl<A: Allocator, K: Drop> JobEnds<A, K> {
         JobEnds { lists }
     }
 
-    /// No ends of no submitter. It takes no memory.
+    /// The ends of no submitter. It takes no memory.
     pub fn none(alloc: A) -> Self
         ensures { result ≡ [] }
     {
@@ -138,11 +138,11 @@ impl<A: Allocator, K: Drop> JobEnds<A, K> {
         }
     }
 
-    /// Adds how later jobs of the same submitters ended: each submitter's ends behind those that it has.
+    /// Adds how later jobs of the same submitters ended: each submitter's ends after those that it has.
     ///
     /// # Errors
     ///
-    /// Where memory is refused. Some of them may then stand there.
+    /// Where memory is refused. Some of them may then be there.
     pub fn append(&mut self, later: JobEnds<A, K>) -> Result<(), AllocError>
         ensures { OnOk result (self.new ≡ behind self.old later) }
     {
@@ -168,7 +168,7 @@ pub struct Ran<L: LogBrand, A: Allocator = Global, K = Bytes<A>> {
     pub book: Book<L, A>,
 }
 
-/// What a round of jobs over a world that was there leaves.
+/// What a round of jobs over an existing world leaves.
 #[derive(Drop)]
 pub struct Round<A: Allocator = Global, K = Bytes<A>> {
     /// The log of its book.

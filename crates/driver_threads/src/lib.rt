@@ -4,18 +4,18 @@
 //! machine that leads to the world as it is. Each call but [`Shared::new`] and [`Shared::end`] makes one step of it, looks at it, makes a seat, or stops or
 //! closes it.
 //!
-//! [`submitter`]s carry jobs through, each with so many in flight at most; a [`poller`] takes completions, a [`controller`] serves. Data is filled,
-//! lists are built and bytes are gathered outside the lock. Who waits sleeps on a condition variable and looks at the book as it wakes: a wait makes no
-//! step and writes nothing down, so no wait lengthens the log.
+//! [`submitter`]s carry jobs through, each with at most a given number in flight; a [`poller`] takes completions, a [`controller`] serves. Data is
+//! filled, lists are built and bytes are gathered outside the lock. Whoever waits sleeps on a condition variable and looks at the book as it wakes: a
+//! wait makes no step and writes nothing down, so no wait lengthens the log.
 //!
-//! All of it stands in the memory of the allocator with which the book was opened, from which threads take memory side by side: it is
-//! `Send` and `Sync` where threads are started, and [`Global`](std::alloc::Global) where none is named.
+//! All of it is in the memory of the allocator with which the book was opened, from which threads take memory side by side: it is `Send` and `Sync`
+//! where threads are started, and [`Global`](std::alloc::Global) where none is named.
 //!
-//! Who rings serves, or the controller alone does: a [`Server`] says so of a run.
+//! Whoever rings serves, or the controller alone does: a [`Server`] says which for a run.
 //!
-//! [`run_threads`] opens a book, runs submitters over it with a poller and a controller, each in a thread of its own, and closes it.
-//! [`run_round`] does so over a world that is there, and gives the log and the world out: rounds that go on each over the world of the one before need no
-//! more memory than the longest of them.
+//! [`run_threads`] opens a book, runs submitters over it with a poller and a controller, each in a thread of its own, and closes it. [`run_round`]
+//! does so over an existing world, and hands out the log and the world: rounds that each go on over the world of the one before need no more memory
+//! than the longest of them.
 #![tactic(auto)]
 
 mod admin;

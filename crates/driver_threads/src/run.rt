@@ -1,4 +1,4 @@
-//! Runs of threads, over a new world or over one that is there, and what they leave.
+//! Runs of threads, over a new world or an existing one, and what they leave.
 
 ghost use Rattle.std.specs.Prelude.{◌≡◌, ◌≤◌, ◌++◌, [], Some, map, length, vec_capacity, vec_len, IfOk, IfErr, IfSome};
 ghost use Rattle.std.specs.Bool.{OnTrue};
@@ -179,7 +179,7 @@ fn join_all<L: LogBrand, A: Allocator, R: Threads, K: Drop, D: Data<K, A>>(
     workers
 }
 
-/// Room for so many submitters, and for what they give back.
+/// Room for this many submitters, and for what they give back.
 fn room_for<L: LogBrand, A: Allocator + Copy, K: Drop, D: Data<K, A>>(
     alloc: A,
     many: usize,
@@ -347,7 +347,7 @@ fn run_workers<
     )
 }
 
-/// The least worker to whom a gate was closed, where none was left out for want of memory.
+/// The first worker to whom a gate was closed, where none was left out for want of memory.
 fn first_closed<L: LogBrand, A: Allocator, K>(workers: &[Returned<L, A, K>]) -> Option<u16> {
     (0..16u16)
         .zip(workers)
@@ -362,7 +362,7 @@ struct HandedIn<L: LogBrand, A: Allocator, K> {
     lists: Vec<Vec<JobEnd<K>, A>, A>,
 }
 
-/// Takes what the submitters hand in, whose lists of jobs are so long.
+/// Takes what the submitters hand in, whose lists of jobs are this long.
 fn handed_in<L: LogBrand, A: Allocator + Copy, K: Drop, D: Data<K, A>>(
     alloc: A,
     workers: Vec<Returned<L, A, K>, A>,
@@ -539,8 +539,8 @@ fn round_over<
 }
 
 /// Opens a book, runs a submitter for each list of jobs, a poller and a controller over it in threads of their own, and closes it with the
-/// submitters' seats. A list's place, from 0, is the worker of its submitter. Each submitter has at most `depth` jobs, 1 to 256, in flight at a
-/// time. `server` says who serves as the submitters ring.
+/// submitters' seats. A list's index, from 0, is the worker of its submitter. Each submitter has at most `depth` jobs, 1 to 256, in flight at a time.
+/// `server` says who serves as the submitters ring.
 ///
 /// A job's command ended as its receipt in the report says, and so as the log does. Each job went as [`submitter`] says: which request was
 /// reserved, with which bytes its draft was submitted, which bytes its end has, and why it was refused. Where the driver takes the steps of jobs
@@ -608,13 +608,13 @@ pub fn run_threads<
     }
 }
 
-/// Does a round of jobs over a world that is there: opens a book over it, runs a submitter for each list of jobs, a poller and a controller in
-/// threads of their own, as [`run_threads`], and closes the book with the submitters' seats. It gives the book's log and its world, over which the next round
+/// Does a round of jobs over an existing world: opens a book over it, runs a submitter for each list of jobs, a poller and a controller in threads of
+/// their own, as [`run_threads`], and closes the book with the submitters' seats. It gives the book's log and its world, over which the next round
 /// may go on: whoever drops the log of each round needs no more memory for many rounds than for the longest of them.
 ///
-/// A job's command ended as its receipt in the report says, and so as the log does, and each job went as [`submitter`] says. The logs of rounds
-/// that go on each over the world of the one before, one behind the other, are one history
-/// ([`law_of_pieces`](driver_book::laws::law_of_pieces)). Each round takes a new ledger.
+/// A job's command ended as its receipt in the report says, and so as the log does, and each job went as [`submitter`] says. The logs of rounds that
+/// each go on over the world of the one before, one after the other, are one history ([`law_of_pieces`](driver_book::laws::law_of_pieces)). Each
+/// round takes a new ledger.
 ///
 /// # Errors
 ///

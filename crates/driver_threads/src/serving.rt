@@ -7,7 +7,7 @@ use std::alloc::{AllocError, Allocator};
 use std::sync::MutexGuard;
 use step_core::{ControllerStep, Refusal, WalkState};
 
-/// Who serves in a run of threads. It makes the same steps whoever that is.
+/// Who serves in a run of threads. The steps are the same whoever that is.
 #[derive(Clone, Copy, Debug, PartialEq, Eq)]
 pub enum Server {
     /// A submitter that rang serves and reaps while it still has the lock, up to a bound. The controller's and the poller's threads do what is
@@ -28,7 +28,7 @@ const MOST_OF_A_RINGER: u32 = 64;
 pub(crate) struct Steps {
     /// Whether there was any.
     pub(crate) any: bool,
-    /// What reaps may have changed. What a step of the controller changed the lock sees.
+    /// What reaps may have changed. The lock sees what a step of the controller changed.
     changes: Changes,
     /// Whether memory was refused to the last one.
     short: bool,
@@ -52,7 +52,7 @@ impl Steps {
     }
 }
 
-/// Reaps the completions that are there, so many at most.
+/// Reaps the completions that are there, at most this many.
 pub(crate) fn reap_some<L: LogBrand, A: Allocator + Copy>(
     book: &mut Book<L, A>,
     most: u32,
@@ -71,7 +71,7 @@ pub(crate) fn reap_some<L: LogBrand, A: Allocator + Copy>(
     steps
 }
 
-/// Does a step of the controller, and answers the next one of its command where that is known: behind a unit of a list the next unit while the walk
+/// Does a step of the controller, and answers the next one of its command where that is known: after a unit of a list the next unit while the walk
 /// goes on, and then the completion.
 ///
 /// # Errors
@@ -100,7 +100,7 @@ fn serve<L: LogBrand, A: Allocator + Copy>(
     }
 }
 
-/// Does what the controller can do, so many steps at most. A command whose list is begun is walked and completed without a look for each step.
+/// Does what the controller can do, at most this many steps. A command whose list is begun is walked and completed without a look for each step.
 pub(crate) fn serve_some<L: LogBrand, A: Allocator + Copy>(
     book: &mut Book<L, A>,
     most: u32,
@@ -138,8 +138,8 @@ fn serve_and_reap<L: LogBrand, A: Allocator + Copy>(book: &mut Book<L, A>) -> St
 }
 
 impl<L: LogBrand, A: Allocator + Copy> Shared<L, A> {
-    /// Gives the lock back behind steps, and wakes those who waited for what they changed, the poller and the controller where something is left
-    /// for them.
+    /// Gives the lock back after steps, and wakes those who waited for what they changed, the poller and the controller where something is left for
+    /// them.
     ///
     /// # Errors
     ///
@@ -153,7 +153,7 @@ impl<L: LogBrand, A: Allocator + Copy> Shared<L, A> {
         if steps.short { Err(AllocError) } else { Ok(()) }
     }
 
-    /// Gives the lock back behind a ring: where a submitter that rang serves, it does so before. Whoever waits for what is left is woken.
+    /// Gives the lock back after a ring: where a submitter that rang serves, it does so before. Whoever waits for what is left is woken.
     ///
     /// # Errors
     ///

@@ -1,4 +1,4 @@
-//! Calls that wait. Who waits looks at the book before it sleeps and each time that it is woken, and makes its step once the answer is another:
+//! Calls that wait. Whoever waits looks at the book before it sleeps and each time that it is woken, and makes its step once the answer is different:
 //! a wait makes no step, and writes nothing down.
 
 ghost use Rattle.std.specs.Prelude.{◌≡◌, true, false, None, IfOk, IfErr};
@@ -111,7 +111,7 @@ fn reserved<L: LogBrand, A: Allocator + Copy>(
     }
 }
 
-/// Collects a command that has ended, of the submission of this number of a seat.
+/// Collects a command that has ended, that of a seat's submission of this number.
 ///
 /// # Errors
 ///
@@ -170,7 +170,7 @@ impl<L: LogBrand, A: Allocator + Copy> Shared<L, A> {
         }
     }
 
-    /// Reserves for a request, and waits as long as identifiers or pages are wanting that others hold.
+    /// Reserves for a request, and waits as long as identifiers or pages that others hold are missing.
     ///
     /// # Errors
     ///

@@ -21,7 +21,7 @@ use step_core::Bytes;
 /// What a submitter gives back.
 #[derive(Drop)]
 pub struct Worked<L: LogBrand, A: Allocator = Global, K = Bytes<A>> {
-    /// Its seat; none where no more seats were to be had.
+    /// Its seat; none where there were no more seats.
     pub seat: Option<Seat<L, A>>,
     /// How its jobs ended, in their order. It has fewer than there were jobs only where the workers were told to stop, somebody else collected
     /// one of its commands, or it got no seat.
@@ -37,10 +37,10 @@ pub struct Worked<L: LogBrand, A: Allocator = Global, K = Bytes<A>> {
 /// it holds is spent. Where each job has its end, the ends of its commands are those that its receipts say, in their order, and there is no
 /// further receipt.
 ///
-/// Each job that is not refused was reserved with its own request on its own queue. Its draft was submitted from this seat with the job's bytes in the
-/// data pieces, and zeros after them; of a Read it was submitted as it was reserved. The receipt has the number of that submission. The command of that
-/// receipt was collected and released, and the job's end has what its data keep of it: of bytes those that were gathered from it. A job is refused
-/// only for what the book answered to its request or its draft, or where it has more bytes than its data pieces take.
+/// Each job that is not refused was reserved with its own request on its own queue. Its draft was submitted from this seat with the job's bytes in
+/// the data pieces, and zeros after them; a Read's was submitted as it was reserved. The receipt has the number of that submission. The command of
+/// that receipt was collected and released, and the job's end has what its data keep of it: for bytes, those that were gathered from it. A job is
+/// refused only for what the book answered to its request or its draft, or where it has more bytes than its data pieces take.
 #[tactic(auto, using(crate::proofs::UnderWay::begins))]
 pub fn submitter<L: LogBrand, A: Allocator + Copy, G: Gate, R: Wait, K: Drop, D: Data<K, A> + Drop>(
     rt: &R,

@@ -58,7 +58,7 @@ word_fits bytes n h = omega (arith, h.below 0, h.below 1, h.below 2, h.below 3)
 pub double_fits : (bytes : List ℕ) (n : ℕ) → IsBytes n bytes → from_le_bytes w64 bytes < 2 ^ 64
 double_fits bytes n h = omega (arith, h.below 0, h.below 1, h.below 2, h.below 3, h.below 4, h.below 5, h.below 6, h.below 7)
 
--- lists that agree on a part and behind it
+-- lists that agree on a part and after it
 pub same_from : (a b : List ℕ) (at end : ℕ) → at ≤ end → slice_range a at end ≡ slice_range b at end → drop end a ≡ drop end b → drop at a ≡ drop at b
 same_from a b at end order part rest = drop_split a at end order ∙ ap (λ x. x ++ drop end a) part ∙ ap (λ x. slice_range b at end ++ x) rest ∙ sym (drop_split b at end order)
 
@@ -72,7 +72,7 @@ part_within a b at many i n fits e =
     ∙ ap (λ x. take n x) (drop-drop i at xs) in
     sym (inside a) ∙ ap (λ x. take n (drop i x)) e ∙ inside b
 
--- two parts, one behind the other
+-- two parts, one after the other
 pub same_parts : (a b : List ℕ) (at n m : ℕ) → take n (drop at a) ≡ take n (drop at b) → take m (drop (at + n) a) ≡ take m (drop (at + n) b)
     → take (n + m) (drop at a) ≡ take (n + m) (drop at b)
 same_parts a b at n m first second =
@@ -123,7 +123,7 @@ fields_add hints sct sc phase hints_fit type_fits code_fits bit_fits =
     let last : bit_or ((hints * 2048 + sct * 256 + sc) * 2) phase ≡ (hints * 2048 + sct * 256 + sc) * 2 + phase = or_shifted (hints * 2048 + sct * 256 + sc) 1 phase bit_fits in
     rw (hints_stay, type_stays, code_stays, status, joined, doubled, last) (omega arith)
 
--- a halfword is made of the fields that are read of it
+-- a halfword is made of the fields that are read from it
 pub fields_of : (bytes : List ℕ) → from_le_bytes w16 (slice_range bytes 14 16) < 2 ^ 16 → last_halfword (completion_of bytes) ≡ from_le_bytes w16 (slice_range bytes 14 16)
 unfolding completion_of
 fields_of bytes h =

@@ -6,7 +6,7 @@ use Rattle.entry_codec.proofs.Bits.{bit_fits, fields_of, hints_fit, is_bit, part
 use Rattle.entry_codec.specs.{Bytes.IsBytes, Completion.{completion_bytes, completion_of, last_halfword, FitsCompletion, IsComEntry, IsCompletion, AgreeOutsideIgnored}}
 use Rattle.entry_codec.specs.declared.completion.ComEntry.{ComEntry}
 
--- 16 bytes spell what is read of them
+-- 16 bytes spell what is read from them
 pub spells : (bytes : List ℕ) → IsBytes 16 bytes → IsCompletion (completion_of bytes) bytes
 unfolding completion_of
 spells bytes h =
@@ -59,7 +59,7 @@ halfword_below entry typed fits =
     let hints = hints_fit entry.hints fits.hints in
     omega (arith, typed.sc, fits.sct)
 
--- what bytes spell is what is read of them
+-- what bytes spell is what is read from them
 pub found : (bytes : List ℕ) (entry : ComEntry) → IsCompletion entry bytes → completion_of bytes ≡ entry
 unfolding completion_of
 found bytes entry h =
@@ -80,7 +80,7 @@ found bytes entry h =
       fields.do_not_retry,
     ) refl
 
--- 16 bytes spell an entry exactly where it is read of them
+-- 16 bytes spell an entry exactly where it is read from them
 pub one_spelling : (bytes : List ℕ) (entry : ComEntry) → IsBytes 16 bytes → (IsCompletion entry bytes ↔ (completion_of bytes ≡ entry))
 one_spelling bytes entry h = (found bytes entry, λ e. subst (λ (x : ComEntry). IsCompletion x bytes) e (spells bytes h))
 

@@ -8,7 +8,7 @@ use Rattle.entry_codec.specs.Bytes.{IsBytes}
 use Rattle.entry_codec.specs.Submission.{submission_bytes, submission_of, command_words, FitsSubmission, IsSubEntry, IsSubmission, AgreeOutsideReserved}
 use Rattle.entry_codec.specs.declared.submission.SubEntry.{SubEntry}
 
--- 64 bytes spell what is read of them
+-- 64 bytes spell what is read from them
 pub spells : (bytes : List ℕ) → IsBytes 64 bytes → IsSubmission (submission_of bytes) bytes
 unfolding submission_of
 spells bytes h =
@@ -42,7 +42,7 @@ spells bytes h =
       cdw15 = word_back _ (part 60 4 (omega arith));
     }
 
--- what bytes spell is what is read of them
+-- what bytes spell is what is read from them
 pub found : (bytes : List ℕ) (entry : SubEntry) → IsSubmission entry bytes → submission_of bytes ≡ entry
 unfolding submission_of
 found bytes entry h =
@@ -67,11 +67,11 @@ found bytes entry h =
       word 60 entry.cdw15 h.cdw15 h.typed.cdw15,
     ) refl
 
--- 64 bytes spell an entry exactly where it is read of them
+-- 64 bytes spell an entry exactly where it is read from them
 pub one_spelling : (bytes : List ℕ) (entry : SubEntry) → IsBytes 64 bytes → (IsSubmission entry bytes ↔ (submission_of bytes ≡ entry))
 one_spelling bytes entry h = (found bytes entry, λ e. subst (λ (x : SubEntry). IsSubmission x bytes) e (spells bytes h))
 
--- what lies behind SGL1
+-- what lies after SGL1
 behind : (sgl words : List ℕ) (k : ℕ) → length sgl ≡ 16 → drop (16 + k) (sgl ++ words) ≡ drop k words
 behind sgl words k e = sym (drop-drop k 16 (sgl ++ words)) ∙ ap (λ x. drop k x) (drop_at sgl words 16 e)
 

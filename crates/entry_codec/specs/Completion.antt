@@ -9,7 +9,7 @@ pub record FitsCompletion (entry : ComEntry) : Type 0 where
   pub sct : entry.status.sct < 8
   pub hints : FitsHints entry.hints
 
--- the numbers but the status code type and the retry delay are those of a value of the type `ComEntry`
+-- the numbers except the status code type and the retry delay are those of a value of the type `ComEntry`
 pub record IsComEntry (entry : ComEntry) : Type 0 where
   pub dw0 : entry.dw0 < 2 ^ 32
   pub sqhd : entry.sqhd < 2 ^ 16
@@ -31,7 +31,7 @@ completion_bytes entry =
     ++ to_le_bytes w16 entry.cid
     ++ to_le_bytes w16 (last_halfword entry)
 
--- the bytes spell the entry: each field stands in its bytes, and what is ignored is free
+-- the bytes spell the entry: each field is in its bytes, and what is ignored may be anything
 pub record IsCompletion (entry : ComEntry) (bytes : List ℕ) : Type 0 where
   pub typed : IsComEntry entry
   pub fits : FitsCompletion entry
@@ -55,7 +55,7 @@ completion_of bytes =
       hints = record { retry_delay = halfword / 4096 % 4; more = halfword / 16384 % 2 == 1; do_not_retry = halfword / 32768 == 1 };
     }
 
--- the same bytes, but for what is ignored
+-- the same bytes, except what is ignored
 pub record AgreeOutsideIgnored (a b : List ℕ) : Type 0 where
   pub dw0 : take 4 a ≡ take 4 b
   pub rest : drop 8 a ≡ drop 8 b

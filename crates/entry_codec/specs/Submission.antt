@@ -10,7 +10,7 @@ pub record FitsSubmission (entry : SubEntry) : Type 0 where
   pub fuse : entry.fuse < 4
   pub psdt : entry.psdt < 4
 
--- the numbers but FUSE and PSDT are those of a value of the type `SubEntry`
+-- the numbers except FUSE and PSDT are those of a value of the type `SubEntry`
 pub record IsSubEntry (entry : SubEntry) : Type 0 where
   pub opcode : entry.opcode < 2 ^ 8
   pub cid : entry.cid < 2 ^ 16
@@ -46,7 +46,7 @@ command_words entry =
 unfoldable pub submission_bytes : SubEntry → List ℕ
 submission_bytes entry = submission_head entry ++ to_le_bytes w64 entry.mptr ++ entry.sgl1 ++ command_words entry
 
--- the bytes spell the entry: each field stands in its bytes, and what is reserved is free
+-- the bytes spell the entry: each field is in its bytes, and what is reserved may be anything
 pub record IsSubmission (entry : SubEntry) (bytes : List ℕ) : Type 0 where
   pub typed : IsSubEntry entry
   pub opcode : slice_index bytes 0 ≡ entry.opcode
@@ -81,7 +81,7 @@ submission_of bytes = record {
   cdw15 = from_le_bytes w32 (slice_range bytes 60 64);
 }
 
--- the same bytes, but for what is reserved
+-- the same bytes, except what is reserved
 pub record AgreeOutsideReserved (a b : List ℕ) : Type 0 where
   pub opcode : slice_index a 0 ≡ slice_index b 0
   pub fuse : slice_index a 1 % 4 ≡ slice_index b 1 % 4

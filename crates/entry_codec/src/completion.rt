@@ -13,7 +13,7 @@ use crate::status::Status;
 
 /// A completion queue entry (NVM Express Base Specification 2.0, "Common Completion Queue Entry", section 3.3.3.2).
 ///
-/// Its 16 bytes are little-endian. Bytes 7:4, DW1, are no part of the entry: they are written as zero and ignored on
+/// Its 16 bytes are little-endian. Bytes 7:4, DW1, are not part of the entry: they are written as zero and ignored on
 /// reading (own).
 #[derive(Clone, Copy, Debug, PartialEq, Eq)]
 pub struct ComEntry {
@@ -27,15 +27,15 @@ pub struct ComEntry {
     pub cid: u16,
     /// Phase tag: bit 0 of the last halfword.
     pub phase: bool,
-    /// Status: bits 11:1 of the last halfword. Its type is below 8 in what is read, and a writer owes that.
+    /// Status: bits 11:1 of the last halfword. Its type is below 8 in what is read, and a writer must ensure that.
     pub status: Status,
-    /// Hints: bits 15:12 of the last halfword. The retry delay is below 4 in what is read, and a writer owes that.
+    /// Hints: bits 15:12 of the last halfword. The retry delay is below 4 in what is read, and a writer must ensure that.
     pub hints: Hints,
 }
 
 impl ComEntry {
-    /// The entry's bytes, with zeros in what is ignored. The caller sees to it that the status code type is below 8 and
-    /// the retry delay below 4: no value is cut off to fit its bits. The entry's numbers are those of a value of its type,
+    /// The entry's bytes, with zeros in what is ignored. The caller must ensure that the status code type is below 8 and
+    /// the retry delay below 4: no value is truncated to fit its bits. The entry's numbers are those of a value of its type,
     /// which [`round_trip`] asks for.
     #[tactic(auto, unfolding(crate::specs::Completion::completion_bytes))]
     pub fn write(self) -> [u8; 16]
@@ -52,7 +52,7 @@ impl ComEntry {
         bytes
     }
 
-    /// The entry that the bytes spell, whatever stands in what is ignored.
+    /// The entry that the bytes spell, whatever is in the ignored bytes.
     #[tactic(auto)]
     pub fn read(bytes: &[u8; 16]) -> ComEntry
         ensures spelled { IsCompletion result bytes.now }

@@ -1,14 +1,14 @@
-//! What a completion tells besides its status: whether and when it makes sense to try again.
+//! What a completion tells in addition to its status: whether and when it makes sense to try again.
 
 ghost use Rattle.std.specs.Prelude.{◌≡◌, true, false};
 ghost use Rattle.entry_codec.specs.Hints.{hint_bits, FitsHints};
 
-/// The fields of a completion's status field beside the status code type and the status code (NVM Express Base Specification
+/// The fields of a completion's status field besides the status code type and the status code (NVM Express Base Specification
 /// 2.0, "Status Field Definition").
 #[derive(Clone, Copy, Debug, PartialEq, Eq)]
 pub struct Hints {
     /// Command Retry Delay: 0 where the command may be sent again at once, else which of the three delays of the
-    /// Identify Controller data structure is to pass before. It has 2 bits in an entry, so it is below 4 in all hints that
+    /// Identify Controller data structure is to pass first. It has 2 bits in an entry, so it is below 4 in all hints that
     /// are written.
     pub retry_delay: u8,
     /// More: the Error Information log has more on this command.
@@ -18,7 +18,7 @@ pub struct Hints {
 }
 
 impl Hints {
-    /// Nothing is hinted at.
+    /// No hints.
     pub const NONE: Hints = Hints {
         retry_delay: 0,
         more: false,

@@ -1,8 +1,8 @@
 //! Queue entries and their bytes: the 64 bytes of a submission queue entry and the 16 bytes of a completion queue entry,
-//! both ways, and the status codes and opcodes that stand in them (NVM Express Base Specification 2.0, NVM Command Set
+//! both ways, and the status codes and opcodes in them (NVM Express Base Specification 2.0, NVM Command Set
 //! Specification 1.0). [`status_names`] has the names of status codes, for people.
 //!
-//! Reading takes every string of bytes. What is reserved or ignored is written as zero and not looked at on reading, so
+//! Reading takes every string of bytes. What is reserved or ignored is written as zero and skipped on reading, so
 //! two strings read alike exactly where they agree outside of it.
 #![tactic(auto)]
 

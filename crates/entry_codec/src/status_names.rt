@@ -37,7 +37,7 @@ pub const NAMES: [(Status, &str); 18] = [
     (Status::COMPARE_FAILURE, "Compare Failure"),
 ];
 
-/// The name of a status; nothing of one that stands not in the table, as one of a forged entry.
+/// The name of a status; none for one that is not in the table, such as one of a forged entry.
 pub fn name_of(status: Status) -> Option<&'static str> {
     for (named, name) in NAMES {
         if named == status {
@@ -47,7 +47,7 @@ pub fn name_of(status: Status) -> Option<&'static str> {
     None
 }
 
-/// A status as people are told it: `0:80 LBA Out of Range`, or `3:01` alone where it has no name here.
+/// A status for people: `0:80 LBA Out of Range`, or `3:01` alone where it has no name here.
 #[derive(Clone, Copy, Debug, PartialEq, Eq)]
 pub struct Named(pub Status);
 

@@ -10,8 +10,8 @@ ghost use Rattle.entry_codec.specs.declared.submission.SubEntry.{SubEntry};
 /// A submission queue entry (NVM Express Base Specification 2.0, "Submission Queue Entry", section 3.3.3.1).
 ///
 /// Its 64 bytes are little-endian. Bits 13:10 of the first doubleword, which the standard reserves, and bytes 15:8, CDW2 and
-/// CDW3, are no part of the entry: they are written as zero and ignored on reading (own). Fields of two bits are below 4 in
-/// what is read, and a writer owes that.
+/// CDW3, are not part of the entry: they are written as zero and ignored on reading (own). Fields of two bits are below 4 in
+/// what is read, and a writer must ensure that.
 #[derive(Clone, Copy, Debug, PartialEq, Eq)]
 pub struct SubEntry {
     /// The command's opcode: bits 7:0 of the first doubleword.
@@ -43,8 +43,8 @@ pub struct SubEntry {
 }
 
 impl SubEntry {
-    /// The entry's bytes, with zeros in what is ignored. The caller sees to it that FUSE and PSDT are below 4: no value is
-    /// cut off to fit its bits. The entry's numbers are those of a value of its type, which [`round_trip`] asks for.
+    /// The entry's bytes, with zeros in what is ignored. The caller must ensure that FUSE and PSDT are below 4: no value is
+    /// truncated to fit its bits. The entry's numbers are those of a value of its type, which [`round_trip`] asks for.
     #[tactic(auto, unfolding(crate::specs::Submission::submission_bytes))]
     pub fn write(self) -> [u8; 64]
         requires fits { FitsSubmission self }
@@ -59,7 +59,7 @@ impl SubEntry {
         bytes
     }
 
-    /// The entry that the bytes spell, whatever stands in what is ignored.
+    /// The entry that the bytes spell, whatever is in the ignored bits and bytes.
     #[tactic(auto)]
     pub fn read(bytes: &[u8; 64]) -> SubEntry
         ensures spelled { IsSubmission result bytes.now }

@@ -30,7 +30,7 @@ const TAIL: u32 = 0x1008;
 #[derive(Drop)]
 pub(crate) struct SmallDevice {
     disk: [[u8; 512]; BLOCKS],
-    /// The slot behind the last entry that the host rang.
+    /// The slot after the last entry that the host announced.
     rung: u16,
     /// The next entry to take.
     head: u16,

@@ -67,7 +67,7 @@ impl<D: Device> Driver<D> {
         }
     }
 
-    /// Makes a call of which no more is wanted than that it is done.
+    /// Makes a call that only has to succeed.
     fn done(&mut self, call: Call) -> Result<(), Failure> {
         match self.host.call(call) {
             Reply::Accepted => Ok(()),
@@ -146,7 +146,7 @@ impl<D: Device> Driver<D> {
         self.collect(cid)
     }
 
-    /// Writes a block, whose bytes are laid where the device reads them; zeros stand behind the bytes.
+    /// Writes a block, whose bytes are laid where the device reads them; zeros follow the bytes.
     pub(crate) fn write(&mut self, block: u64, bytes: &[u8]) -> Result<Ended, Failure> {
         let cid = self.reserve(Kind::Write, block)?;
         let laid = self.host.write_data(1, cid, 0, |page| {

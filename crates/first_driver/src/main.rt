@@ -1,8 +1,8 @@
 //! A whole driver: it writes a block of a device, and reads it back.
 //!
-//! The host (`host_bench`) has the rings, the lists and the pages of the commands. What is the driver's stands in `driver`: a command's way through the host's calls, and
-//! what the host tells for the device's registers. `device` has what a driver needs of a device, and a small one. Whoever has another
-//! device writes its [`device::Device`], and changes no line of the driver.
+//! The host (`host_bench`) has the rings, the lists and the pages of the commands. The driver's own part is in `driver`: a command's way through the
+//! host's calls, and what the host tells for the device's registers. `device` has what a driver needs of a device, and a small one. Whoever has
+//! another device writes its [`device::Device`], and changes no line of the driver.
 #![tactic(auto)]
 
 mod device;

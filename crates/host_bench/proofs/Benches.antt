@@ -140,21 +140,21 @@ module _ {A : Type 0} where
 
     pub fills : (bytes : List ℕ) (answer : Reply) (d' : DraftContents) (new : Values A) → FillsDraft d bytes answer d' → new ≡ record mid { rows = with_value mid.rows q cid (Some (value.Draft d')) }
         → Fills (table_with s old) q cid bytes (draft_of q cid (table_with s old).drafts) answer (table_with s new)
-    fills bytes answer d' new is left = rw found_draft (go answer is)
+    fills bytes answer d' new is left = rw found_draft (by_answer answer is)
       where
-        go : (answer : Reply) → FillsDraft d bytes answer d' → Fills (table_with s old) q cid bytes (Some d) answer (table_with s new)
-        go reply.Accepted is = (is.0, left_changed (filled_draft bytes) d' new is.1 left)
-        go (reply.NotFilled why) is = (is.0, left_same d' new is.1 left)
-        go answer is = absurd is
+        by_answer : (answer : Reply) → FillsDraft d bytes answer d' → Fills (table_with s old) q cid bytes (Some d) answer (table_with s new)
+        by_answer reply.Accepted is = (is.0, left_changed (filled_draft bytes) d' new is.1 left)
+        by_answer (reply.NotFilled why) is = (is.0, left_same d' new is.1 left)
+        by_answer answer is = absurd is
 
     pub builds : (answer : Reply) (d' : DraftContents) (new : Values A) → BuildsDraft d answer d' → new ≡ record mid { rows = with_value mid.rows q cid (Some (value.Draft d')) }
         → Builds (table_with s old) q cid (draft_of q cid (table_with s old).drafts) answer (table_with s new)
-    builds answer d' new is left = rw found_draft (go answer is)
+    builds answer d' new is left = rw found_draft (by_answer answer is)
       where
-        go : (answer : Reply) → BuildsDraft d answer d' → Builds (table_with s old) q cid (Some d) answer (table_with s new)
-        go reply.Accepted is = left_changed built d' new is left
-        go (reply.Refused refusal.Memory) is = left_same d' new is left
-        go answer is = absurd is
+        by_answer : (answer : Reply) → BuildsDraft d answer d' → Builds (table_with s old) q cid (Some d) answer (table_with s new)
+        by_answer reply.Accepted is = left_changed built d' new is left
+        by_answer (reply.Refused refusal.Memory) is = left_same d' new is left
+        by_answer answer is = absurd is
 
     pub kept_name : (d' : DraftContents) (new : Values A) → d'.q ≡ d.q → d'.cid ≡ d.cid → new ≡ record mid { rows = with_value mid.rows q cid (Some (value.Draft d')) } → IsBench s new
     kept_name d' new queue identifier left =
@@ -168,13 +168,13 @@ module _ {A : Type 0} where
     pub writes : {T : Type 0} (leaves : List ℕ → T → List ℕ → Type 0) (i : ℕ) (answer : Option T) (d' : DraftContents) (new : Values A) → WritesDraft leaves d i (option_map (λ (page : ℕ × List ℕ). page.1) (slice_get d.data_pages i)) answer d'
         → new ≡ record mid { rows = with_value mid.rows q cid (Some (value.Draft d')) }
         → WritesData leaves (table_with s old) q cid i (draft_data_at (table_with s old) q cid i) answer (table_with s new)
-    writes {T} leaves i answer d' new is left = rw found_draft (go (option_map (λ (page : ℕ × List ℕ). page.1) (slice_get d.data_pages i)) answer is)
+    writes {T} leaves i answer d' new is left = rw found_draft (by_bytes (option_map (λ (page : ℕ × List ℕ). page.1) (slice_get d.data_pages i)) answer is)
       where
-        go : (bytes : Option (List ℕ)) (answer : Option T) → WritesDraft leaves d i bytes answer d' → WritesData leaves (table_with s old) q cid i bytes answer (table_with s new)
-        go None None is = left_same d' new is left
-        go (Some bytes) (Some r) is = (is.0, is.1, left_changed (with_data i is.0) d' new is.2 left)
-        go None (Some r) is = absurd is
-        go (Some bytes) None is = absurd is
+        by_bytes : (bytes : Option (List ℕ)) (answer : Option T) → WritesDraft leaves d i bytes answer d' → WritesData leaves (table_with s old) q cid i bytes answer (table_with s new)
+        by_bytes None None is = left_same d' new is left
+        by_bytes (Some bytes) (Some r) is = (is.0, is.1, left_changed (with_data i is.0) d' new is.2 left)
+        by_bytes None (Some r) is = absurd is
+        by_bytes (Some bytes) None is = absurd is
 
     pub writes_kept : {T : Type 0} (leaves : List ℕ → T → List ℕ → Type 0) (i : ℕ) (bytes : Option (List ℕ)) (answer : Option T) (d' : DraftContents) (new : Values A) → WritesDraft leaves d i bytes answer d'
         → new ≡ record mid { rows = with_value mid.rows q cid (Some (value.Draft d')) } → IsBench s new
@@ -346,7 +346,7 @@ module _ {A : Type 0} where
           subst (IsBench world) (sym stays) (goes_on s (events.Release f) (events.Refused why []) world old step (λ k n. refl) b),
         )
 
--- Bytes that are written where bytes stand leave each page in, or out.
+-- Bytes that are written where bytes are leave each page in, or out.
 
 -- a page is in where its first byte is there
 first_byte : (pages : Pages) → AreWhole pages → (p : ℕ) → is_in pages p ≡ is_some (byte_at pages (4096 * p + 0))
@@ -357,13 +357,13 @@ first_byte pages whole p = elim (option_is (page_at pages p)) [
       rw here (ap is_some (sym (byte_in pages p 0 page here (omega arith) ∙ slice_get-get_or page 0 0 (omega (arith, full)))))
 ]
 
--- a byte stands at a place of a range that is there
+-- a byte is at an address of a range that is there
 stands : (m : Memory) (addr n place : ℕ) → bytes_at m addr n ≢ None → addr ≤ place → place < addr + n → is_some (m place) ≡ true
 stands m addr n place there low high =
     let at : addr + (place - addr) ≡ place = omega (arith, low) in
     true_from_ne_false (is_some (m place)) (λ e. there (missing_at m addr n (place - addr) (omega (arith, low, high)) (ap m at ∙ none_of (m place) e)))
 
--- so the same places have bytes
+-- so the same addresses have bytes
 same_places : (m : Memory) (addr : ℕ) (bytes : List ℕ) → bytes_at m addr (length bytes) ≢ None → (place : ℕ) → is_some (written m addr bytes place) ≡ is_some (m place)
 same_places m addr bytes there place = elim (cases_lt place addr) [
   | inl before ↦ ap is_some (written_before m addr place bytes before)

@@ -1,4 +1,4 @@
--- Rows of a table, the values of a kind that stand in them, and what ties them to the host.
+-- Rows of a table, the values of a kind in them, and what ties them to the host.
 use Rattle.machine_model.specs.Events as events
 use Rattle.host_bench.specs.declared.values.CommandValue.TheVariants as value
 use Rattle.std.proofs.Common.{◌≡◌, inl, inr, ℕ, ◌<◌, ◌==◌, Bool, true, false, Option, Some, None, List, [], ◌∷◌, ◌++◌, find, refl, ap, sym, ◌∙◌, subst, eqb-true, ◌+◌, ◌-◌, ◌&&◌, ◌||◌, ◌⊎◌, not, if◌then◌else◌, length, IfNone, IfSome, ap₂, arith}
@@ -18,7 +18,7 @@ use Rattle.machine_model.specs.{Refusals.{in_service, in_state, takes_admin}, Sc
 use Rattle.slot_table.proofs.Rows.{option_is}
 use Rattle.page_memory.proofs.Lists.{some_is, all-append, all-all, found_any}
 
--- Rows of a table, and the values of a kind that stand in them.
+-- Rows of a table, and the values of a kind in them.
 
 pub names : {V : Type 0} (row : Row V) (q cid : ℕ) → is_at row q cid ≡ true → (row.q ≡ q) × (row.cid ≡ cid)
 names row q cid e = let both = and_parts (row.q == q) (row.cid == cid) e in (eqb-true row.q q both.0, eqb-true row.cid cid both.1)
@@ -110,7 +110,7 @@ module _ {V : Type 0} where
   inside_all queues places [] inside = tt
   inside_all queues places (row ∷ rows) inside = ((inside.0, inside.1), inside_all queues places rows inside.2)
 
-  -- a row's place is one of the table, and it is found among all
+  -- a row's slot is one of the table, and it is found among all
   pub place_of_row : (queues places : ℕ) (rows : List (Row V)) (q cid : ℕ) (v : V) → AreInside queues places rows → value_at rows q cid ≡ Some v → (q < queues) × (cid < places)
   place_of_row queues places rows q cid v inside at =
       let there = holds_there (λ row. (row.q < queues) × (row.cid < places)) rows q cid v at (inside_all queues places rows inside) in
@@ -371,7 +371,7 @@ module _ {A : Type 0} where
 
   -- A reservation
 
-  -- its place is one of the table, and is free
+  -- its slot is one of the table, and is free
   pub place_free : (s new : State) (q : ℕ) (request : Request) (d : DraftContents) (values : TableOf (Option (CommandValue A))) → Step s (events.Reserve q request) (events.Reserved d) new → IsBench s values
       → IsPlace values q d.cid × (value_at values.rows q d.cid ≡ None)
   place_free s new q request d values step b = (

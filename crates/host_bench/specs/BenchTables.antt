@@ -42,7 +42,7 @@ BuildsDraft d reply.Accepted new = new ≡ built d
 BuildsDraft d (reply.Refused refusal.Memory) new = new ≡ d
 BuildsDraft d answer new = ⊥
 
--- so of a row, whose draft stays there
+-- likewise of a row, whose draft stays there
 abbrev pub BuildsRow : {A : Type 0} → Option (CommandValue A) → Option DraftContents → Reply → Option (CommandValue A) → Type 0
 BuildsRow row None answer new = (answer ≡ reply.NoValue) × (new ≡ row)
 BuildsRow row (Some d) answer new = (left : DraftContents) × BuildsDraft d answer left × (new ≡ Some (value.Draft left))

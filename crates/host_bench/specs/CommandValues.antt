@@ -71,7 +71,7 @@ pub record IsHeld {A : Type 0} (records : List Record) (row : Row (Option (Comma
   pub identifier : identifier_of value ≡ row.cid
   pub outstanding : IsOutstanding row.q row.cid records
 
--- the values of a bench, which has queue 0: one at most of each command that is outstanding, and a place for each that may be
+-- the values of a bench, which has queue 0: at most one of each command that is outstanding, and a slot for each that may be
 pub record IsBench {A : Type 0} (s : State) (values : TableOf (Option (CommandValue A))) : Type 0 where
   pub queues : values.queues ≡ length s.host.queues
   pub first : 0 < values.queues

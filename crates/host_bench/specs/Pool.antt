@@ -9,7 +9,7 @@ pub record Keeps (old new : Pages) : Type 0 where
   pub count : length new ≡ length old
   pub stays : (p : ℕ) → is_in new p ≡ is_in old p
 
--- the bytes stand from an address on, and all else is as it was
+-- the bytes are there, starting at an address, and all else is as it was
 pub record IsWritten (t : Table) (addr : ℕ) (bytes : List ℕ) (new : Table) : Type 0 where
   pub rest : new ≡ record t { world = record t.world { memory = new.world.memory } }
   pub bytes_are : byte_at new.world.memory ≡ written (byte_at t.world.memory) addr bytes

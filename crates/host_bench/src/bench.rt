@@ -29,9 +29,14 @@ use std::marker::Model;
 
 /// A host with its pages, and the drafts, tickets and finished commands that it keeps, each named by its queue and identifier. Contracts see the
 /// machine that is this host over these pages, with no controller, and lists of these values.
-#[derive(Drop)]
 pub struct HostBench<A: Allocator = Global> {
     pub(crate) kept: BenchTables<A>,
+}
+
+impl<A: Allocator> Drop for HostBench<A> {
+    fn drop(self) {
+        let Self { kept: _ } = self;
+    }
 }
 
 impl<A: Allocator> Model for HostBench<A> {
@@ -46,7 +51,7 @@ impl<A: Allocator> Model for HostBench<A> {
 }
 
 impl<A: Allocator + Copy> HostBench<A> {
-    /// Opens a host, with no value about. Every page is in and zero, and every queue is live with empty rings.
+    /// Opens a host, with no values. Every page is in and zero, and every queue is live with empty rings.
     ///
     /// # Errors
     ///
@@ -83,7 +88,7 @@ impl<A: Allocator + Copy> HostBench<A> {
 }
 
 impl<A: Allocator> HostBench<A> {
-    /// Fills the buffer with the bytes of the pool from an address on, as a device reads them. Nothing changes.
+    /// Fills the buffer with the bytes of the pool starting at an address, as a device reads them. Nothing changes.
     ///
     /// # Errors
     ///
@@ -99,7 +104,7 @@ impl<A: Allocator> HostBench<A> {
         read(&mut self.kept.store, addr, into)
     }
 
-    /// Puts the bytes into the pool from an address on, as a device writes them. Nothing but these bytes changes.
+    /// Puts the bytes into the pool, starting at an address, as a device writes them. Nothing but these bytes changes.
     ///
     /// # Errors
     ///
@@ -115,7 +120,7 @@ impl<A: Allocator> HostBench<A> {
         write(&mut self.kept.store, addr, bytes)
     }
 
-    /// The owner of a page of the pool: that of the one claim in which it stands.
+    /// The owner of a page of the pool: that of the one claim that it is in.
     pub fn owner(&self, p: PageNo) -> Owner
         requires { p < length self.now.world.memory }
         ensures { Contains (claims_of self.now.world.host) (p, result) }

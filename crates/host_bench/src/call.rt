@@ -155,7 +155,7 @@ pub enum Call<R = Request, B = Bytes> {
     Reset,
 }
 
-/// A call whose request and bytes stand in the memory of one allocator.
+/// A call whose request and bytes are in the memory of one allocator.
 pub type CallIn<A> = Call<Request<A>, Bytes<A>>;
 
 /// What a call answered.
@@ -205,7 +205,7 @@ pub enum Reply<B = Bytes> {
     Refused(Refusal),
 }
 
-/// What a call answered, where its bytes stand in the memory of one allocator.
+/// What a call answered, where its bytes are in the memory of one allocator.
 pub type ReplyIn<A> = Reply<Bytes<A>>;
 
 impl<B> Reply<B> {

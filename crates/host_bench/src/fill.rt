@@ -20,7 +20,7 @@ pub(crate) fn no_memory<A: Allocator>() -> ReplyIn<A>
     Reply::Refused(Refusal::Memory)
 }
 
-/// Fills a draft with the bytes, and with zeros behind them.
+/// Fills a draft with the bytes, and with zeros after them.
 pub(crate) fn fill_draft<A: Allocator>(draft: &mut Draft<A>, bytes: &[u8]) -> ReplyIn<A>
     ensures { FillsDraft draft.old bytes.now result draft.new }
 {

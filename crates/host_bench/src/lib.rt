@@ -2,7 +2,7 @@
 //!
 //! A [`HostBench`] is a [`host_core::Host`] with its pages and with the values of its outstanding commands: each call names a command by its queue and
 //! identifier ([`Call`]). The controller is somebody else's: it reads and writes the pages between calls ([`HostBench::read`],
-//! [`HostBench::write`]), and hears the doorbells that a ring and a reap tell ([`Doorbell`]).
+//! [`HostBench::write`]), and sees the doorbells that a ring and a reap tell ([`Doorbell`]).
 //!
 //! Each call is one of the host, whose contract holds against any controller, or of the value that it names.
 #![tactic(auto)]

@@ -8,7 +8,7 @@ ghost use Rattle.host_bench.specs.Pool.{Keeps};
 use page_memory::{Dma, MAX_PAGES, Store, TouchRecord, Unreadable};
 use std::alloc::Allocator;
 
-/// Fills the buffer with the bytes of a store from an address on. No page changes.
+/// Fills the buffer with the bytes of a store starting at an address. No page changes.
 pub(crate) fn read<A: Allocator>(
     store: &mut Store<A>,
     addr: u64,
@@ -28,7 +28,7 @@ pub(crate) fn read<A: Allocator>(
     answer
 }
 
-/// Puts the bytes into a store from an address on. Each page stays in or out.
+/// Puts the bytes into a store, starting at an address. Each page stays in or out.
 pub(crate) fn write<A: Allocator>(
     store: &mut Store<A>,
     addr: u64,

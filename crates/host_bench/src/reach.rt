@@ -40,7 +40,7 @@ impl<A: Allocator> HostBench<A> {
         self.kept.host.queue_memory(q)
     }
 
-    /// Where data piece `i` of an outstanding command lies; pieces are counted from 0, and buckets are left aside. None where no such
+    /// Where data piece `i` of an outstanding command lies; pieces are counted from 0, and buckets are skipped. None where no such
     /// command is outstanding, or it has no such piece.
     pub fn place(&self, q: u16, cid: u16, i: usize) -> Option<DataPlace>
         ensures { result ≡ place_at self.now.world.host q cid i }
@@ -56,7 +56,7 @@ impl<A: Allocator> HostBench<A> {
     }
 
     /// The 4,096 bytes of the page of data piece `i` of a collected command, where they lie; pieces are counted from 0, and buckets are
-    /// left aside. None where no such command is collected, or it has no such piece.
+    /// skipped. None where no such command is collected, or it has no such piece.
     pub fn data(&self, q: u16, cid: u16, i: usize) -> Option<&[u8]>
         ensures { option_copied result ≡ data_at self.now q cid i }
     {
@@ -69,7 +69,7 @@ impl<A: Allocator> HostBench<A> {
 }
 
 impl<A: Allocator + Copy> HostBench<A> {
-    /// Fills a draft with bytes that are lent, and with zeros behind them: it answers and does what [`Call::Fill`] with these bytes does.
+    /// Fills a draft with bytes that are lent, and with zeros after them: it answers and does what [`Call::Fill`] with these bytes does.
     pub fn fill(&mut self, q: u16, cid: u16, bytes: &[u8]) -> ReplyIn<A>
         ensures { Does self.old (Call.Fill q cid bytes.now) result self.new }
     {
@@ -77,7 +77,7 @@ impl<A: Allocator + Copy> HostBench<A> {
     }
 
     /// Gives the 4,096 bytes of the page of data piece `i` of a draft to a closure, to be written where they lie, and answers what it answers; the
-    /// piece's own bytes stand at its offset, pieces are counted from 0, and buckets are left aside. A draft that is built stays built. None, and
+    /// piece's own bytes are at its offset, pieces are counted from 0, and buckets are skipped. A draft that is built stays built. None, and
     /// nothing is called, where there is no such draft, or it has no such piece.
     pub fn write_data<T, F: FnOnce(&mut [u8]) -> T>(
         &mut self,

@@ -1,7 +1,7 @@
 //! The values of outstanding commands, by queue and identifier: the draft of each that was reserved, its ticket, then the finished command.
 //!
-//! Who names commands by numbers keeps them so ([`crate::HostBench`], and the bench of a whole machine). A value is taken out of its row while a call has it, and put
-//! back where the call refuses it; so a refused call leaves the table as it was.
+//! Whoever names commands by numbers keeps them so ([`crate::HostBench`], and the bench of a whole machine). A value is taken out of its row while a
+//! call has it, and put back where the call refuses it; so a refused call leaves the table as it was.
 
 ghost use Rattle.std.specs.Prelude.{◌≡◌, None, Some, IfSome, IfNone};
 ghost use Rattle.std.specs.Option.{option_and_then, option_copied};
@@ -126,7 +126,7 @@ pub fn drop_row<A: Allocator>(values: &mut CommandValues<A>, q: u16, cid: u16)
     drop(values.take(q, cid));
 }
 
-/// Puts a command's next value behind all others, in place of the one that was taken out of its row.
+/// Puts a command's next value after all others, in place of the one that was taken out of its row.
 pub fn put_next<A: Allocator>(
     values: &mut CommandValues<A>,
     q: u16,

@@ -26,7 +26,7 @@ use Rattle.machine_model.proofs.Moves.{half_made_is}
 use Rattle.machine_model.proofs.Counting.{get_changed}
 use Rattle.page_memory.proofs.Lists.{some_is}
 
--- What is against it
+-- What rules it out
 
 abbrev pub half_causes : State → Half → List (Bool × Refusal)
 half_causes s half =

@@ -187,13 +187,13 @@ pub collect-none : (t : Tables) (q cid : ℕ) → find (is_at q cid) t.records �
 collect-none t q cid e = (rw e refl, refl)
 
 pub collect-stranger : (t : Tables) (q cid : ℕ) (r : Record) → find (is_at q cid) t.records ≡ Some r → (r.phase ≡ Submitted → ⊥) → (r.phase ≡ Held → ⊥) → Refuses (state_of t) (events.Collect q cid) refusal.Stranger []
-collect-stranger t q cid r e submitted held = (rw e (go r.phase submitted held), refl)
+collect-stranger t q cid r e submitted held = (rw e (by_phase r.phase submitted held), refl)
   where
-    go : (phase : Phase) → (phase ≡ Submitted → ⊥) → (phase ≡ Held → ⊥) → (if not (is_submitted phase || is_held phase) then Some refusal.Stranger else (if is_submitted phase then Some refusal.NotYet else None)) ≡ Some refusal.Stranger
-    go Drafted submitted held = refl
-    go Submitted submitted held = absurd (submitted refl)
-    go Held submitted held = absurd (held refl)
-    go Collected submitted held = refl
+    by_phase : (phase : Phase) → (phase ≡ Submitted → ⊥) → (phase ≡ Held → ⊥) → (if not (is_submitted phase || is_held phase) then Some refusal.Stranger else (if is_submitted phase then Some refusal.NotYet else None)) ≡ Some refusal.Stranger
+    by_phase Drafted submitted held = refl
+    by_phase Submitted submitted held = absurd (submitted refl)
+    by_phase Held submitted held = absurd (held refl)
+    by_phase Collected submitted held = refl
 
 pub collect-not_yet : (t : Tables) (q cid : ℕ) (r : Record) → find (is_at q cid) t.records ≡ Some r → (is_submitted r.phase ≡ true) → Refuses (state_of t) (events.Collect q cid) refusal.NotYet []
 collect-not_yet t q cid r e a = (rw (e, a) refl, refl)
@@ -249,11 +249,11 @@ pub at_most_once : (t : Tables) → IsWhole t → (q cid : ℕ) → total (here 
 at_most_once t whole q cid = let h = holds_from_sound (state_of t) (sound-of t whole) in h.once q cid
 
 away_is : (r : Record) → is_away r ≡ is_out r.phase
-away_is r = go r.phase
+away_is r = by_phase r.phase
   where
-    go : (ph : Phase) → (is_drafted ph || is_collected ph) ≡ is_out ph
-    go Drafted = refl
-    go ph = refl
+    by_phase : (ph : Phase) → (is_drafted ph || is_collected ph) ≡ is_out ph
+    by_phase Drafted = refl
+    by_phase ph = refl
 
 -- the pages can be put
 pub ended_can_put : (t : Tables) (q cid : ℕ) (pages : PagesOut) → IsWhole t → Brings t q cid pages → CanPut pages t.pages
@@ -406,11 +406,11 @@ both-pages a b are =
     )
 
 pub joined-pages : (a b : PagesOut) → ArePages a → ArePages b → ArePages (a ++ b)
-joined-pages a b h g = all-to (λ (page : ℕ × List ℕ). length page.1 ≡ 4096) (a ++ b) (go a (all-from (λ (page : ℕ × List ℕ). length page.1 ≡ 4096) a h))
+joined-pages a b h g = all-to (λ (page : ℕ × List ℕ). length page.1 ≡ 4096) (a ++ b) (along_pages a (all-from (λ (page : ℕ × List ℕ). length page.1 ≡ 4096) a h))
   where
-    go : (xs : PagesOut) → AllByRecursion (λ (page : ℕ × List ℕ). length page.1 ≡ 4096) xs → AllByRecursion (λ (page : ℕ × List ℕ). length page.1 ≡ 4096) (xs ++ b)
-    go [] all = all-from (λ (page : ℕ × List ℕ). length page.1 ≡ 4096) b g
-    go (x ∷ xs) all = (all.0, go xs all.1)
+    along_pages : (xs : PagesOut) → AllByRecursion (λ (page : ℕ × List ℕ). length page.1 ≡ 4096) xs → AllByRecursion (λ (page : ℕ × List ℕ). length page.1 ≡ 4096) (xs ++ b)
+    along_pages [] all = all-from (λ (page : ℕ × List ℕ). length page.1 ≡ 4096) b g
+    along_pages (x ∷ xs) all = (all.0, along_pages xs all.1)
 
 pub proper_draft : (d : DraftContents) → FitsRequest d.request → ArePages (d.data_pages ++ d.chain_pages) → IsDraft d → IsProperDraft d
 proper_draft d fits are is = let both = both-pages d.data_pages d.chain_pages are in record { request = fits; data_pages = both.0; chain_pages = both.1; draft = is }

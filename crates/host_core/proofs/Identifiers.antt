@@ -1,4 +1,4 @@
--- Identifiers, and the places of records.
+-- Identifiers, and the slots of records.
 use Rattle.std.proofs.Common.{◌≡◌, ℕ, suc, ◌+◌, ◌<◌, Some, List, [], ◌∷◌, length, map, slice_get, refl, sym, ◌∙◌, arith, subst, ◌≢◌, ◌==◌, inl, inr, Bool, true, false, ◌&&◌, ◌||◌, ◌++◌, slice_set, ap, length-set, eqb-true, eq-eqb, zero, ◌-◌, None, find, ap₂, is_some, ◌≤◌, nat_lt, if◌then◌else◌, lt-ltb}
 use Rattle.std.proofs.lemmas.Bool.{true≢false, or_parts, or_right, cases_eq, cases_Bool, cond_both, false_from_ne_true, true_from_ne_false, ne_eqb, not-true, Decides.nat_tests}
 use Rattle.std.{specs.{List.{AllByRecursion, list_any}, Option.option_map_or}, proofs.lemmas.List.Folds.list_any-append}
@@ -26,7 +26,7 @@ pub alone_sound : (s : State) → IsSound s → IsSound (alone (record { entries
 alone_sound s h =
     record { owners = h.owners; counted = h.counted; identifiers = h.identifiers; out = h.out; works_fit = h.works_fit; deletions = h.deletions; creations = h.creations; bare = h.bare; halves = h.halves; admin = h.admin }
 
--- a queue has no page of a half that it has not
+-- a queue has no page of a half that it does not have
 no-others : (queues : List Queue) → AllByRecursion HasNoOtherPages (map host_queue_of queues)
 no-others [] = tt
 no-others (x ∷ queues) = (record { submission = λ e. rw e refl; completion = λ e. rw e refl }, no-others queues)
@@ -59,7 +59,7 @@ sound-of t w =
       admin = h.admin;
     }
 
--- What holds of the tables over their pages, where what the machine's laws say of their state is left aside.
+-- What holds of the tables over their pages, leaving aside what the machine's laws say of their state.
 pub record Settled (t : Tables) : Type 0 where
   pub pool : IsPool t.pages
   pub lent : length t.owners ≡ length t.pages
@@ -186,7 +186,7 @@ claim-less records queues q cid claims there = record {
       (λ queue at. let old = claims.each q queue at in less-claims records q cid queue.host.claimed old (old.inside cid there));
 }
 
--- The places of the records: a new identifier's is empty, and no command stands outside.
+-- The slots of the records: a new identifier's is empty, and no command is outside.
 
 -- what none passes is not found
 none-found : {A : Type 0} (test : A → Bool) (xs : List A) → list_any test xs ≡ false → find test xs ≡ None
@@ -205,7 +205,7 @@ place-of parts pages q cid many places there new = record { queue = omega (arith
 pub new-place : {A : Type 0} (parts : HostTables A) (pages : Pages) (q cid : ℕ) → IsWhole (tables_of parts pages) → q < length parts.queues.items → IsNewIdentifier (state_of (tables_of parts pages)) q cid → IsPlace parts.records q cid
 new-place parts pages q cid w there new = place-of parts pages q cid w.host.limits.record_queues w.host.limits.record_places there new
 
--- An outstanding command stands in one of the places of its queue
+-- An outstanding command is in one of the record slots of its queue
 
 any-found : {A : Type 0} (test : A → Bool) (xs : List A) → list_any test xs ≡ true → (i : ℕ) × (x : A) × (slice_get xs i ≡ Some x) × (test x ≡ true)
 any-found test [] h = absurd (true≢false (sym h))
@@ -302,7 +302,7 @@ all-lost t h q n size =
     let yes : nat_lt r.cid n ≡ true = lt-ltb r.cid n (omega (arith, place.identifier, size)) in
     ap (λ b. if b then lost q r else r) yes)
 
--- Each command of a host stands in its place.
+-- Each command of a host is in its slot.
 
 of-own : (peer : Peer) (q : ℕ) (w : Work) (pages : List ℕ) → OwnsFit peer q w pages → is_of_io w ≡ false → q ≡ 0
 of-own peer q (Io request) pages fit own = absurd (true≢false own)

@@ -8,7 +8,7 @@ use Rattle.host_core.specs.{Parts.{records_of}, Rows.{RecordRow, rows_on}}
 use Rattle.page_memory.{proofs.{Bytes.told, Lists.some_is}, specs.{Memory.Memory, Pages.{Pages, AreWhole, byte_at}}}
 use Rattle.machine_model.proofs.Cases.{none_some}
 
--- A member of a list that is changed, by its place.
+-- A member of a list that is changed, by its index.
 
 pub change-other : {A : Type 0} (j k : ℕ) (f : A → A) (xs : List A) → j ≢ k → slice_get (change j f xs) k ≡ slice_get xs k
 change-other j k f [] far = refl
@@ -17,13 +17,13 @@ change-other zero (suc k) f (x ∷ xs) far = refl
 change-other (suc j) zero f (x ∷ xs) far = refl
 change-other (suc j) (suc k) f (x ∷ xs) far = change-other j k f xs (λ e. far (ap suc e))
 
--- a member written where it stands
+-- a member written where it is
 pub change-at-lists : {A : Type 0} (q : ℕ) (f : A → A) (xs : List A) (x y : A) → q < length xs → x ≡ get_or xs q x → y ≡ f x → slice_set xs q y ≡ change q f xs
 change-at-lists q f [] x y l e h = absurd (omega arith)
 change-at-lists {A = A} zero f (z ∷ xs) x y l e h = ap (λ (w : A). w ∷ xs) (h ∙ ap f e)
 change-at-lists {A = A} (suc q) f (z ∷ xs) x y l e h = ap (λ (w : List A). z ∷ w) (change-at-lists q f xs x y (omega arith) e h)
 
--- a write at a place that was reached by an equal number
+-- a write at an index that was reached by an equal number
 pub change-at : {A : Type 0} (q i : ℕ) (f : A → A) (xs : List A) (x y : A) → i ≡ q → i < length xs → x ≡ get_or xs i x → y ≡ f x → slice_set xs i y ≡ change q f xs
 change-at q i f xs x y same l e h = change-at-lists i f xs x y l e h ∙ ap (λ (k : ℕ). change k f xs) same
 
@@ -99,7 +99,7 @@ pub rows_on-outstanding : (q : ℕ) (rows : List (Row RecordRow)) → rows_on q 
 rows_on-outstanding q [] = refl
 rows_on-outstanding q (row ∷ rows) = grind (arith, rows_on-outstanding q rows)
 
--- the row at which a walk stands, and those behind it
+-- the row at which a walk stands, and those after it
 one_more : (q n p cid : ℕ) (rows : List (Row RecordRow)) → first_place (drop n rows) ≡ Some (p, cid)
     → rows_on q (drop n rows) ≡ (if p == q then rows_on q (drop (suc n) rows) + 1 else rows_on q (drop (suc n) rows))
 one_more q zero p cid [] at = absurd (none-some _ at)

@@ -84,7 +84,7 @@ least-in-run free segment first request good is =
     ap (λ (ps : List ℕ). pages_with request.pieces segment (joined_parts request.pieces ps)) (is ∙ same-pages first (data_count request.pieces))
     ∙ same_anywhere request segment first good
 
--- What is against the creation of a completion queue.
+-- What rules out the creation of a completion queue.
 
 pub any-count : (q : ℕ) (rs : List Record) → nat_lt 0 (length (map (λ (r : Record). r.cid) (filter (λ (r : Record). r.q == q) rs))) ≡ list_any (λ (r : Record). r.q == q) rs
 any-count q [] = refl
@@ -102,7 +102,7 @@ create_cq-free t q zeroth gone free = let x = gone-at t q gone in rw (zeroth, sl
 pub create_cq-busy : (t : Tables) (q : ℕ) (vector : Option ℕ) → (q == 0) ≡ false → state_at t.queues q ≡ Some Gone → list_any (λ (r : Record). r.q == q) t.records ≡ true → Refuses (state_of t) (events.CreateCq q vector) refusal.Outstanding []
 create_cq-busy t q vector zeroth gone busy = let x = gone-at t q gone in (rw (zeroth, slice_get-map host_queue_of t.queues q, x.1, x.2, any-count q t.records, busy) refl, refl)
 
--- A queue is granted a half: the tables behind it, and the machine that they stand for.
+-- A queue is granted a half: the tables after it, and the machine that they stand for.
 
 -- The queue that gets a half: it is in the state for it, is not queue 0, and has no command.
 

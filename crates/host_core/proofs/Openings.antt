@@ -159,11 +159,11 @@ both_granted a b q x y sq cq owners mid new some some' e f room granted first is
 
 -- A call's tables, as its host and the pages that it is lent.
 
--- what a call may lean on
+-- what a call may rely on
 pub whole_at : (t : Tables) (v : HostView) (pages : Pages) → view_of t ≡ v → IsHost t → IsOver v pages → IsWhole (over_pages t pages)
 whole_at t v pages is host over = record { host = record { limits = host.limits; table = host.table; sound = host.sound; rings = host.rings }; over = subst (λ (x : HostView). IsOver x pages) (sym is) over }
 
--- and what it answers for
+-- and what it must ensure
 pub step_at : (t new : Tables) (v : HostView) (e : Event) (reply : Reply) → view_of t ≡ v → Step (state_of t) e reply (state_of new) → HostStep v t.pages e reply (view_of new) new.pages
 step_at t new v e reply is step = subst (λ (x : HostView). HostStep x t.pages e reply (view_of new) new.pages) is step
 
@@ -333,7 +333,7 @@ made c peer owners table queues =
       queues = queues;
     }
 
--- the places of a host that opens
+-- the record slots of a host that opens
 abbrev pub no_records : Config → TableOf RecordRow
 no_records c = record { queues = c.queues + 1; places = c.entries - 1; rows = [] }
 

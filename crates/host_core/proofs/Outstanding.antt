@@ -176,7 +176,7 @@ none_there s new q request d step =
     let fresh : IsNewIdentifier s d.q d.cid = subst (λ (k : ℕ). IsNewIdentifier s k d.cid) (sym r.queue) r.identifier in
     outstanding-among s.host d.q d.cid ∙ not-true _ fresh.unused
 
--- and its record stands behind the others
+-- and its record comes after the others
 pub record_reserved : (s new : State) (q : ℕ) (request : Request) (d : DraftContents) → Step s (events.Reserve q request) (events.Reserved d) new → find (is_at d.q d.cid) new.host.records ≡ Some (drafted_record d)
 record_reserved s new q request d step =
     ap (λ (part : HostPart). find (is_at d.q d.cid) part.host.records) (part_left s (events.Reserve q request) (events.Reserved d) new step.2)
@@ -244,7 +244,7 @@ counts s e reply ok c =
     two : (k n : ℕ) (f g : HostQueue → HostQueue) → length (a.change k f (a.change n g s.host.queues)) ≡ length s.host.queues
     two k n f g = one k f (a.change n g s.host.queues) ∙ one n g s.host.queues
 
--- the limits of a state that a bench's places rest on
+-- the limits of a state that a bench's slots rest on
 pub record SameLimits (s : State) (part : HostPart) : Type 0 where
   pub queues : length part.host.queues ≡ length s.host.queues
   pub entries : part.entries ≡ s.entries

@@ -443,7 +443,7 @@ half-owned t n owned-by tells q half x at p l = elim (cases_Bool (is_among (half
     named (Some (Queue k h)) at h' = let both = and_parts (k == q) (is_same_half h half) h' in rw (← eqb-true k q both.0, ← same-half h half both.1) at
     named o at h' = absurd cc
 
--- A half that is there has the pages from its first on.
+-- A half that is there has the pages starting at its first.
 
 pub half-from : (half : Half) (x : declared.Queue) → has_half half x.state ≡ true → half_of half x ≡ pages_from (first_page_of half x.host) (half_pages x.host.entries half)
 half-from Submission x live = rw live refl

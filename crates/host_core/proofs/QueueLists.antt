@@ -99,7 +99,7 @@ pub submission_page-in : (t : Tables) → IsWhole t → (q : ℕ) (queue : Queue
     → (k : ℕ) → k < half_pages queue.host.entries Submission → IsSome (page_at t.pages (queue.host.sq + k))
 submission_page-in t w q queue at live k l = queue_page-in t w q Submission (queue.host.sq + k) (submission-owner t w q queue at live k l)
 
--- a queue that was written where another stood
+-- a queue that was written where another was
 pub queue-written : (t : Tables) (f : Queue → Queue) (q i : ℕ) (x y : Queue) → q < length t.queues → i ≡ q → x ≡ get_or t.queues i x → y ≡ f x
     → record t { queues = slice_set t.queues i y } ≡ record t { queues = change q f t.queues }
 queue-written t f q i x y l e at is =

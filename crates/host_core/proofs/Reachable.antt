@@ -14,7 +14,7 @@ first-run may p (x ∷ pages) = elim (cases_Bool (x == p + 1)) [
   | inr e ↦ rw (first-run may x pages, e) (ap (λ (runs : List Run). (record { first = p; count = 1; right = may }) ∷ runs) (sym (first-run may x pages)))
 ]
 
--- so many of the pages follow, and no more than there are
+-- this many of the pages follow, and no more than there are
 pub following-within : (p : ℕ) (pages : List ℕ) → following p pages ≤ length pages
 following-within p [] = omega arith
 following-within p (x ∷ pages) = elim (cases_Bool (x == p + 1)) [
@@ -22,7 +22,7 @@ following-within p (x ∷ pages) = elim (cases_Bool (x == p + 1)) [
   | inr e ↦ rw e (omega arith)
 ]
 
--- where the pages are looked at, and those behind the first
+-- where the pages are looked at, and those after the first
 pub first-of : (may : Right) (pages : List ℕ) (p n : ℕ) → slice_get pages 0 ≡ Some p → n ≡ following p (take (length pages - 1) (drop 1 pages))
     → (runs_of may pages ≡ (record { first = p; count = n + 1; right = may }) ∷ runs_of may (drop (n + 1) pages)) × (n + 1 ≤ length pages)
 first-of may [] p n at count = absurd (cc)
@@ -32,7 +32,7 @@ first-of may (x ∷ pages) p n at count =
     let next : n + 1 ≡ suc n = omega arith in
     rw (next, rest, same) (first-run may p pages, omega (arith, following-within p pages))
 
--- the memory of a ring is one run, from its first page on
+-- the memory of a ring is one run, starting at its first page
 pub ring-is : (may : Right) (p n : ℕ) → 0 < n → ring_of may (pages_from p n) ≡ Some (record { first = p; count = n; right = may })
 ring-is may p zero l = absurd (omega arith)
 ring-is may p (suc n) l = ap (λ (k : ℕ). Some (record { first = p; count = suc k; right = may })) (length-pages_from (p + 1) n)

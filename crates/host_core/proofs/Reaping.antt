@@ -226,7 +226,7 @@ pub record Makes (u : Tables) (k : ℕ) (half : Half) (state : HostState) : Type
   pub making : queue.state ≡ state
   pub owns : OwnsHalf u.owners (length u.pages) k half queue
 
--- What the end of one of the host's own leans on: a queue whose deletion it ends has both halves, and one of which it gives back a half owns that half's pages
+-- What the end of one of the host's own relies on: a queue whose deletion it ends has both halves, and one whose half it gives back owns that half's pages
 abbrev pub Means : AdminKind → Tables → Type 0
 Means (Abort k cid) u = Unit {0}
 Means (DeleteSq k) u = (x : Queue) → slice_get u.queues k ≡ Some x → has_sq x.state ≡ true
@@ -390,9 +390,9 @@ settled-over t w q x e kind sees ends below =
       records = all-filter (IsRecord (length u.queues)) (λ (r : Record). not (is_at q e.cid r)) u.records s.table.records;
     })
 
--- what the end of one of the host's own leans on is there
+-- what the end of one of the host's own relies on is there
 
--- what each queue has that hangs on its state and on its places alone
+-- what each queue has that depends on its state and on its places alone
 each-over : (P : ℕ → Queue → Type 0) (q k cid : ℕ) (queues : List Queue) → ((j : ℕ) (y : Queue) → P j y → P j (with_completion_heard k y)) → ((j : ℕ) (y : Queue) → P j y → P j (without_claim cid y))
     → ((j : ℕ) (y : Queue) → slice_get queues j ≡ Some y → P j y) → (j : ℕ) (y : Queue) → slice_get (change q (without_claim cid) (change q (with_completion_heard k) queues)) j ≡ Some y → P j y
 each-over P q k cid queues hears frees all =
@@ -425,7 +425,7 @@ made-at t p test q cid k r count was is = elim (option_is (slice_get t.queues k)
     told : (o : Option Queue) → slice_get t.queues k ≡ o → length (filter (λ (s : Record). p k s.work) t.records) ≡ (if option_map_or (λ (queue : HostQueue). test queue.state) (option_map host_queue_of o) false then 1 else 0)
     told o at = count ∙ ap (λ (h : Option HostQueue). if option_map_or (λ (queue : HostQueue). test queue.state) h false then 1 else 0) (slice_get-map host_queue_of t.queues k ∙ ap (option_map host_queue_of) at)
 
--- a queue stands there still, in its state, once a completion was reaped and a claim given up
+-- a queue is still there, in its state, once a completion was reaped and a claim given up
 kept-change : (f : Queue → Queue) → ((y : Queue) → (f y).state ≡ y.state) → (q k : ℕ) (queues : List Queue) (x : Queue) → slice_get queues k ≡ Some x
     → (y : Queue) × (slice_get (change q f queues) k ≡ Some y) × (y.state ≡ x.state)
 kept-change f same q k [] x at = cc

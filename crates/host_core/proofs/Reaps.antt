@@ -186,7 +186,7 @@ waits-told t q o l =
 
 -- A queue was retired: its submission half is given back, and its commands that were never answered are lost.
 
--- A queue whose deletion has ended, and at whose head no completion stands
+-- A queue whose deletion has ended, and at whose head there is no completion
 pub record Retires (t : Tables) (q : ℕ) (x : Queue) : Type 0 where
   pub at : slice_get t.queues q ≡ Some x
   pub deleted : is_deleted x.state ≡ true
@@ -311,7 +311,7 @@ pub retire-made : (t new : Tables) → IsWhole t → (q : ℕ) → passes is_del
 retire-made t new w q deleted drained is =
     let r = retires t q deleted drained in rw is (steps t (retired q t) (events.Retire q) events.Accepted w refl tt (retire-exact t w q r.0 r.1) (settled-retired t w q r.0 r.1))
 
--- a completion stands at its head
+-- a completion is at its head
 pub retire-drained : (t : Tables) (q : ℕ) (e : ComEntry) → passes is_deleted (state_at t.queues q) ≡ true → seen_at t q ≡ Some e → Step (state_of t) (events.Retire q) (events.Refused refusal.NotDrained []) (state_of t)
 retire-drained t q e deleted seen =
     host_step t t (events.Retire q) (events.Refused refusal.NotDrained []) refl tt ((rw (in_state-is is_deleted t q ∙ deleted, seen) refl, refl), refl)

@@ -1,11 +1,11 @@
--- What is against an admin command that names a queue, or a command.
+-- What rules out an admin command that names a queue, or a command.
 use Rattle.std.proofs.Common.{◌≡◌, ◌∙◌, ℕ, ◌==◌, ◌||◌, ◌&&◌, not, Bool, true, false, Option, Some, None, [], refl, ap, sym, inl, inr, slice_get}
 use Rattle.std.proofs.lemmas.Option.{slice_get-map}
 use Rattle.slot_table.proofs.Rows.{option_is}
 use Rattle.admin_commands.specs.declared.AdminKind.TheVariants.{Abort, DeleteSq, DeleteCq, CreateSq}
 use Rattle.controller_walk.specs.Units.{first_passing}
 use Rattle.io_commands.specs.{Asked.Request, Requests.fault_of, declared.request.RequestFault.RequestFault}
-use Rattle.machine_model.specs.Refusals.{cq_deletion_outstanding, in_state, is_changing, is_deleted, is_deleting, is_reaped, is_gone, is_half_made, is_io_queue, is_submitted, has_cq, has_cq_alone, in_service, lacks_queue as takes_none, no_io_queue, record_is, refusal_of}
+use Rattle.machine_model.specs.Refusals.{cq_deletion_outstanding, in_state, is_changing, is_deleted, is_deleting, is_reaped, is_half_made, is_io_queue, is_submitted, has_cq, in_service, lacks_queue as takes_none, no_io_queue, record_is, refusal_of}
 use Rattle.machine_model.specs.{State.State, Step.{Refuses, Step}, declared.words.HostState.HostState}
 use Rattle.host_core.proofs.{Granting.{in_state-is, no_io-is}, QueueLists.host_step}
 use Rattle.host_core.specs.{Commands.{passes, state_at, takes_no_io}, Reaping.lacks_completion, Ringing.lacks_submission, Sending.{named_causes, lacks_queue}, Tables.{Tables, state_of, host_queue_of}}
@@ -56,27 +56,15 @@ delete_cq-no_queue s q a = (rw a refl, refl)
 pub delete_cq-changing : (s : State) (q : ℕ) → ((q == 0) || not (in_state has_cq s q)) ≡ false → in_state is_changing s q ≡ true → Refuses s (events.DeleteCq q) refusal.WrongState []
 delete_cq-changing s q a b = (rw (a, b) refl, refl)
 
-pub delete_cq-outstanding : (s : State) (q : ℕ) → ((q == 0) || not (in_state has_cq s q)) ≡ false → in_state is_changing s q ≡ false → (in_state has_cq_alone s q && cq_deletion_outstanding s q) ≡ true → Refuses s (events.DeleteCq q) refusal.WrongState []
-delete_cq-outstanding s q a b d = (rw (a, b, d) refl, refl)
-
-pub delete_cq-free : (s : State) (q : ℕ) → ((q == 0) || not (in_state has_cq s q)) ≡ false → in_state is_changing s q ≡ false → (in_state has_cq_alone s q && cq_deletion_outstanding s q) ≡ false → first_passing (named_causes s (DeleteCq q)) ≡ None
-delete_cq-free s q a b d = rw (a, b, d) refl
-
 -- The creation of a completion queue
 
 pub create_cq-no_queue : (s : State) (q : ℕ) (vector : Option ℕ) → is_io_queue s q ≡ false → Refuses s (events.CreateCq q vector) refusal.NoQueue []
 create_cq-no_queue s q vector a = (rw a refl, refl)
 
-pub create_cq-there : (s : State) (q : ℕ) (vector : Option ℕ) → is_io_queue s q ≡ true → in_state is_gone s q ≡ false → Refuses s (events.CreateCq q vector) refusal.WrongState []
-create_cq-there s q vector a b = (rw (a, b) refl, refl)
-
 -- The creation of a submission queue
 
 pub create_sq-no_queue : (s : State) (q : ℕ) → is_io_queue s q ≡ false → Refuses s (events.CreateSq q) refusal.NoQueue []
 create_sq-no_queue s q a = (rw a refl, refl)
-
-pub create_sq-whole : (s : State) (q : ℕ) → is_io_queue s q ≡ true → in_state is_half_made s q ≡ false → Refuses s (events.CreateSq q) refusal.WrongState []
-create_sq-whole s q a b = (rw (a, b) refl, refl)
 
 pub create_sq-outstanding : (s : State) (q : ℕ) → is_io_queue s q ≡ true → in_state is_half_made s q ≡ true → cq_deletion_outstanding s q ≡ true → Refuses s (events.CreateSq q) refusal.WrongState []
 create_sq-outstanding s q a b d = (rw (a, b, d) refl, refl)
@@ -105,7 +93,7 @@ io-there t q state zeroth is = elim (option_is (slice_get t.queues q)) [
   | inr (x, at) ↦ rw (zeroth, slice_get-map host_queue_of t.queues q, at) refl
 ]
 
--- A queue's tail that is rung
+-- A queue's tail, written to the doorbell
 
 served-is : (t : Tables) (q : ℕ) (b : Bool) → lacks_submission (slice_get t.queues q) ≡ b → not (in_state in_service (state_of t) q) ≡ b
 served-is t q b is = elim (option_is (slice_get t.queues q)) [

@@ -157,7 +157,7 @@ pub all-queues_lost : (t : Tables) → AllByRecursion (IsPlaced t.entries (lengt
     → map (lost_in q) (filter (λ r. is_of_io r.work) t.records) ≡ reset_records t.records
 all-queues_lost t placed q size = lost-all t.entries (length t.queues) q (filter is_io t.records) (all-filter (IsPlaced t.entries (length t.queues)) is_io t.records placed) size
 
--- each command stays in its place
+-- each command stays in its slot
 place-kept : (entries queues q : ℕ) (r : Record) → IsPlaced entries queues r → IsPlaced entries queues (lost_in q r)
 place-kept entries queues q r h =
     cond_both (nat_lt r.q q) _ _ (IsPlaced entries queues) (λ _. lost_by (IsPlaced entries queues) r (λ e. h) (λ e. record { queue = h.queue; identifier = h.identifier; own = h.own }))

@@ -180,7 +180,7 @@ none-gone (x ∷ queues) = refl
 
 pub one-gone : (n : ℕ) → 1 ≤ n → (queues : List declared.Queue) → change n gone (gone_below n queues) ≡ gone_below (n + 1) queues
 one-gone zero some queues = absurd (omega (arith, some))
-one-gone (suc n) some queues = let next : suc (suc n) ≡ suc n + 1 = omega arith in subst (λ (k : ℕ). change (suc n) gone (gone_below (suc n) queues) ≡ gone_below k queues) next (go queues)
+one-gone (suc n) some queues = let next : suc (suc n) ≡ suc n + 1 = omega arith in subst (λ (k : ℕ). change (suc n) gone (gone_below (suc n) queues) ≡ gone_below k queues) next (by_queues queues)
   where
     first : (n : ℕ) (queues : List declared.Queue) → change n gone (gone_first n queues) ≡ gone_first (suc n) queues
     first zero [] = refl
@@ -188,9 +188,9 @@ one-gone (suc n) some queues = let next : suc (suc n) ≡ suc n + 1 = omega arit
     first (suc n) [] = refl
     first (suc n) (x ∷ queues) = ap (λ (xs : List declared.Queue). gone x ∷ xs) (first n queues)
 
-    go : (queues : List declared.Queue) → change (suc n) gone (gone_below (suc n) queues) ≡ gone_below (suc (suc n)) queues
-    go [] = refl
-    go (x ∷ queues) = ap (λ (xs : List declared.Queue). x ∷ xs) (first n queues)
+    by_queues : (queues : List declared.Queue) → change (suc n) gone (gone_below (suc n) queues) ≡ gone_below (suc (suc n)) queues
+    by_queues [] = refl
+    by_queues (x ∷ queues) = ap (λ (xs : List declared.Queue). x ∷ xs) (first n queues)
 
 pub all-gone : (n : ℕ) → 1 ≤ n → (queues : List declared.Queue) → length queues ≤ n → gone_below n queues ≡ gone_behind_first queues
 all-gone zero some queues size = absurd (omega (arith, some))
@@ -215,7 +215,7 @@ not-gone (suc n) (x ∷ queues) = first n queues
 
 -- Halves
 
--- a queue owns no page of a half that it has not
+-- a queue owns no page of a half that it does not have
 pub half-absent : (t : Tables) (q : ℕ) (half : Half) (h : ListsHalf t q half) → has_half half h.queue.state ≡ false → given_back (is_half q half) t.owners ≡ t.owners
 half-absent t q Submission h none = none-given (is_half q Submission) t.owners (λ p l. sym (h.lists.lists p l) ∙ rw none refl)
 half-absent t q Completion h none = none-given (is_half q Completion) t.owners (λ p l. sym (h.lists.lists p l) ∙ rw none refl)
@@ -346,7 +346,7 @@ in-all (y ∷ queues) (suc place) half x p at h =
     among-append (sq_pages_of y ++ cq_pages_of y) (flat_map a.halves_of (map host_queue_of queues)) p
     ∙ or_right (is_among (sq_pages_of y ++ cq_pages_of y) p) _ (in-all queues place half x p at h)
 
--- behind queue 0
+-- after queue 0
 io-stands : (queues : List RowsQueue) (p : ℕ) → is_among (a.io_pages (map host_queue_of queues)) p ≡ true → (q : ℕ) × (half : Half) × (x : RowsQueue) × (slice_get queues (suc q) ≡ Some x) × (is_among (half_of half x) p ≡ true)
 io-stands [] p h = absurd (true≢false (sym h))
 io-stands (x ∷ queues) p h = let s = stands-in queues p h in (s.place, s.half, s.queue, s.at, s.among)
@@ -458,7 +458,7 @@ whole-reset t w =
     (subst (λ (v : HostView). IsSound (alone v (tables_reset t).pages)) (sym (view-reset t w))
     (alone_sound left (steps_keep (state_of t) events.Reset events.Accepted left (reset-step t) (sound-of t w))))
 
--- What the parts of a reset lean on
+-- What the parts of a reset rely on
 
 pub places-renewed : (t : Tables) (pages : Pages) → IsWhole t → HasPlaces (over_pages (with_admin_renewed t) pages)
 places-renewed t pages w =
@@ -484,17 +484,17 @@ claims-renewed t pages w =
 half-renewed : (t : Tables) (kept : List Bool → List Bool) (records : List Record) (pages : Pages) (q : ℕ) (half : Half) → ListsHalf t q half
     → ListsHalf (record t { pages = pages; records = records; queues = change 0 (claims_changed kept) (change 0 admin_reset t.queues) }) q half
 half-renewed t kept records pages q half h =
-    let x = go t.queues q h.at in record { queue = x.0; at = x.1; entries = x.3; lists = subst (λ (ps : List ℕ). ListsAll (is_half q half) t.owners ps) x.2 h.lists }
+    let x = by_place t.queues q h.at in record { queue = x.0; at = x.1; entries = x.3; lists = subst (λ (ps : List ℕ). ListsAll (is_half q half) t.owners ps) x.2 h.lists }
   where
     same-half : (half : Half) (x : RowsQueue) → half_of half x ≡ half_of half (admin_left kept x)
     same-half Submission x = refl
     same-half Completion x = refl
 
-    go : (queues : List RowsQueue) (k : ℕ) → slice_get queues k ≡ Some h.queue → (x : RowsQueue) × (slice_get (change 0 (claims_changed kept) (change 0 admin_reset queues)) k ≡ Some x) ×
+    by_place : (queues : List RowsQueue) (k : ℕ) → slice_get queues k ≡ Some h.queue → (x : RowsQueue) × (slice_get (change 0 (claims_changed kept) (change 0 admin_reset queues)) k ≡ Some x) ×
         (half_of half h.queue ≡ half_of half x) × (x.host.entries ≡ t.entries)
-    go [] k at = absurd (none_some at)
-    go (y ∷ queues) zero at = (admin_left kept h.queue, ap (λ (z : RowsQueue). Some (admin_left kept z)) (some_is at), same-half half h.queue, h.entries)
-    go (y ∷ queues) (suc k) at = (h.queue, at, refl, h.entries)
+    by_place [] k at = absurd (none_some at)
+    by_place (y ∷ queues) zero at = (admin_left kept h.queue, ap (λ (z : RowsQueue). Some (admin_left kept z)) (some_is at), same-half half h.queue, h.entries)
+    by_place (y ∷ queues) (suc k) at = (h.queue, at, refl, h.entries)
 
 pub halves-renewed : (t : Tables) (pages : Pages) → IsWhole t → ListHalves (with_records_reset (over_pages (with_admin_renewed t) pages))
 halves-renewed t pages w =

@@ -24,7 +24,7 @@ find-rows (row ∷ rows) q cid = grind (arith, nat_tests, find-rows rows q cid)
 pub found-row : (rows : List (Row RecordRow)) (q cid : ℕ) (value : RecordRow) → value_at rows q cid ≡ Some value → find (is_at q cid) (records_of rows) ≡ Some (record_of q cid value)
 found-row rows q cid value h = find-rows rows q cid ∙ ap (option_map (record_of q cid)) h
 
--- a row is the record that stands in its place
+-- a row is the record that is in its slot
 pub row-is : (rows : List (Row RecordRow)) (q cid : ℕ) {value : RecordRow} {r : Record} → value_at rows q cid ≡ Some value → find (is_at q cid) (records_of rows) ≡ Some r → record_of q cid value ≡ r
 row-is rows q cid {value} h was = some_is (sym (found-row rows q cid value h) ∙ was)
 
@@ -37,7 +37,7 @@ no-row rows q cid h = find-rows rows q cid ∙ ap (option_map (record_of q cid))
 pub empty-row : (rows : List (Row RecordRow)) (q cid : ℕ) → find (is_at q cid) (records_of rows) ≡ None → value_at rows q cid ≡ None
 empty-row rows q cid h = let e = sym (find-rows rows q cid) ∙ h in elim (option_is (value_at rows q cid)) [ inl none ↦ none | inr (x, at) ↦ absurd (none_some (sym (rw at at e))) ]
 
--- no row stands in a place
+-- no row is in a slot
 
 none-with : (rows : List (Row RecordRow)) (q cid : ℕ) (f : Record → Record) → NoneAt rows q cid → with_record q cid f (records_of rows) ≡ records_of rows
 none-with [] q cid f h = refl
@@ -77,7 +77,7 @@ without-row (row ∷ rows) q cid distinct = elim (cases_Bool (table.is_at row q 
   | inr far ↦ rw far (ap (λ (rs : List Record). record_of row.q row.cid row.value ∷ rs) (without-row rows q cid distinct.1))
 ]
 
--- a row taken out, if one stands there
+-- a row taken out, if one is there
 taken-row : (rows : List (Row RecordRow)) (q cid : ℕ) (o : Option RecordRow) → o ≡ value_at rows q cid → IfSome o (λ _. IsDistinct rows) → records_of (without rows q cid) ≡ without_record q cid (records_of rows)
 taken-row rows q cid None at distinct =
     let none = none_stands rows q cid (sym at) in

@@ -122,7 +122,7 @@ sent-exact t kind cid s slot half is =
 
 -- The queue that it names
 
--- what a command leans on: a queue that it deletes has its submission half
+-- what a command relies on: a queue that it deletes has its submission half
 abbrev AsksOf : AdminKind → Tables → Type 0
 AsksOf (DeleteSq q) u = (x : Queue) → slice_get u.queues q ≡ Some x → has_sq x.state ≡ true
 AsksOf kind u = Unit {0}
@@ -199,7 +199,7 @@ send-refused t kind why plain h = host_step t t (sending kind) (events.Refused w
 
 -- A sending as it is made: what is found before it, and what is written.
 
--- What is against it
+-- What rules it out
 
 abbrev room_causes : State → List (Bool × Refusal)
 room_causes s = (no_identifier s 0, refusal.NoIdentifier) ∷ (queue_full s 0, refusal.QueueFull) ∷ []

@@ -67,7 +67,7 @@ draft-sgl1 : (d : DraftContents) (entry : SubEntry) → IsProperDraft d → d.en
 draft-sgl1 d entry proper built = ap (λ (e : SubEntry). length e.sgl1) (carries_entry d entry proper.draft built)
     ∙ length-sgl1 d.request.kind d.cid d.request (spelling (draft_first d)) (numbers_of d.data_pages) (length-spelling (draft_first d))
 
--- the entry can be posted behind the pages
+-- the entry can be posted after the pages
 pub can-post : (t : Tables) (d : DraftContents) (x : Queue) (entry : SubEntry) → IsWhole t → CanSubmit t d x entry → CanPost (brought_in d t) d.q x entry
 can-post t d x entry whole c =
     let kept = live_has_sq x.state c.live in

@@ -90,7 +90,7 @@ claim-there owners (c ∷ claims) p o at h some = elim (cases_Bool (c.0 == p)) [
 pub owner_claims : (t : Tables) → IsHost t → (p : ℕ) (o : Owner) → p < length t.owners → owner_at t.owners p ≡ Some o → Contains (claims_of (state_of t).host) (p, o)
 owner_claims t w p o l at = claim-there t.owners (claims_of (state_of t).host) p o at (told t w) (omega (arith, w.sound.owners p, ap one (lt-ltb p (length t.owners) l)))
 
--- The owner of a page is found at the first claim in which it stands.
+-- The owner of a page is found at the first claim that it is in.
 claim-found : (owners : List Owner) (claims : List (ℕ × Owner)) (p : ℕ) (o : Owner) → owner_at owners p ≡ Some o → Told owners claims → 0 < times p (firsts claims)
     → find (λ claim. claim.0 == p) claims ≡ Some (p, o)
 claim-found owners [] p o at h some = absurd (omega arith)

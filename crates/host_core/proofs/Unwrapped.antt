@@ -1,4 +1,4 @@
--- What an unwrap of a result owes.
+-- What an unwrap of a result requires.
 use Rattle.std.specs.Prelude.{Result, Ok, Err, IsOk, IsErr, OnErr}
 use Rattle.std.proofs.Common.{refl}
 

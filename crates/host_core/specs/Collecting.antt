@@ -22,7 +22,7 @@ abbrev pub CollectTells : Tables → ℕ → ℕ → Request → Status → Hint
 CollectTells t q cid request status hints =
     (entry : Record) → find (is_at q cid) t.records ≡ Some entry → (entry.work ≡ Io request) × (entry.status ≡ Some status) × (entry.hints ≡ hints)
 
--- So many pages are no fewer than a command's.
+-- This many pages are no fewer than a command's.
 abbrev pub HasRoom : Tables → ℕ → ℕ → ℕ → Type 0
 HasRoom t q cid room =
     (entry : Record) → find (is_at q cid) t.records ≡ Some entry → length entry.data_pages + length entry.chain_pages ≤ room

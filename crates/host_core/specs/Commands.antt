@@ -37,7 +37,7 @@ record_of_draft d =
       hints = NONE;
     }
 
--- a draft's pages are its command's, and out; its identifier is claimed, and its record stands behind the others
+-- a draft's pages are its command's, and out; its identifier is claimed, and its record comes after the others
 abbrev pub reserved : DraftContents → Tables → Tables
 reserved d t =
     record t {
@@ -96,14 +96,14 @@ lacks peer q state kind = if is_admin kind then not (takes_admin peer && (q == 0
 abbrev pub ClaimsNext : List Queue → ℕ → ℕ → Type 0
 ClaimsNext queues q cid = (queue : Queue) → slice_get queues q ≡ Some queue → position not queue.host.claimed ≡ Some cid
 
--- so many pages where they are placed first, and so many of those that are left
+-- this many pages where they are placed first, and this many of those that are left
 abbrev pub first_placed : List Owner → ℕ → List ℕ
 first_placed owners data_pages = placed (free_pages owners) data_pages
 
 abbrev pub then_placed : List Owner → (data_pages chain_pages : ℕ) → List ℕ
 then_placed owners data_pages chain_pages = placed (without_numbers (first_placed owners data_pages) (free_pages owners)) chain_pages
 
--- What a request gets, where nothing is against it: an identifier and so many pages for its data and for its chain.
+-- What a request gets, where nothing rules it out: an identifier and a number of pages for its data and for its chain.
 pub record Grants (t : Tables) (q : ℕ) (r : Request) (cid data_pages chain_pages : ℕ) : Type 0 where
   pub none : refusal_of (state_of t) (events.Reserve q r) ≡ None
   pub good : IsGood r

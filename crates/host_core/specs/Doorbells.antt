@@ -1,4 +1,4 @@
--- The doorbells of a controller, 4 bytes apart: a queue's tail, and behind it its head.
+-- The doorbells of a controller, 4 bytes apart: a queue's tail, and after it its head.
 use Rattle.std.specs.Prelude.{ℕ, ◌+◌, ◌*◌}
 use Rattle.host_core.specs.declared.doorbell.Doorbell.{Doorbell}
 

@@ -12,12 +12,12 @@ abbrev pub has_half : Half → HostState → Bool
 has_half Submission state = has_sq state
 has_half Completion state = has_cq state
 
--- the pages of a queue's half, and none where the host has not the half
+-- the pages of a queue's half, and none where the host does not have the half
 abbrev pub half_of : Half → Queue → List ℕ
 half_of Submission queue = sq_pages_of queue
 half_of Completion queue = cq_pages_of queue
 
--- A queue's half is there: the pages from its first on are those that it owns.
+-- A queue's half is there: the pages starting at its first are those that it owns.
 pub record HasHalf (t : Tables) (q : ℕ) (half : Half) : Type 0 where
   pub queue : Queue
   pub at : slice_get t.queues q ≡ Some queue

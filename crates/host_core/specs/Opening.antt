@@ -1,4 +1,4 @@
--- A host as it opens: the halves of its queues are its lowest pages, one queue's behind the other's, and all pages behind them are free.
+-- A host as it opens: the halves of its queues are its lowest pages, one queue's after the other's, and all pages after them are free.
 use Rattle.std.specs.Prelude.{◌≡◌, ◌⊎◌, ℕ, ◌+◌, ◌-◌, ◌*◌, ◌<◌, ◌≤◌, false, Option, Some, None, List, [], length, map, replicate}
 use Rattle.machine_model.specs.{Opening.{opening, open_refusal}, declared.words.{Peer.Peer, HostState.TheVariants.Live, OpenRefusal.{OpenRefusal, TheVariants.Memory}}}
 use Rattle.page_ledger.specs.{Owners.{is_free, is_owned_at, owner_at, pages_from}, declared.owner.Owner.Owner}
@@ -11,7 +11,7 @@ use Rattle.page_ledger.specs.declared.owner.Owner.TheVariants as owner
 abbrev pub refusal_of_config : Config → Option OpenRefusal
 refusal_of_config c = open_refusal c.pages c.queues c.entries c.segment
 
--- the host of the machine that it opens, but that it speaks to this peer, and its pages
+-- the host of the machine that it opens, except that it speaks to this peer, and its pages
 abbrev pub opened_view : Config → Peer → HostView
 opened_view c peer =
     record { entries = c.entries; segment = c.segment; host = record (opening c.pages c.queues c.entries c.segment []).host { peer = peer } }
@@ -45,12 +45,12 @@ fresh_queue n q =
 abbrev pub fresh_queues : ℕ → ℕ → List Queue
 fresh_queues n count = map (fresh_queue n) (pages_from 0 count)
 
--- All pages from one on are free, and none before it.
+-- All pages starting at a given one are free, and none before it.
 pub record IsFreeFrom (base : ℕ) (owners : List Owner) : Type 0 where
   pub used : (p : ℕ) → p < base → is_owned_at is_free owners p ≡ false
   pub free : (p : ℕ) → base ≤ p → p < length owners → owner_at owners p ≡ Some owner.Free
 
--- The halves of so many queues have their owners, and all pages behind them are free.
+-- The halves of this many queues have their owners, and all pages after them are free.
 pub record AreGranted (a b count : ℕ) (owners : List Owner) : Type 0 where
   pub submission : (q p : ℕ) → q < count → sq_from a b q ≤ p → p < sq_from a b q + a → owner_at owners p ≡ Some (owner.Queue q Submission)
   pub completion : (q p : ℕ) → q < count → cq_from a b q ≤ p → p < cq_from a b q + b → owner_at owners p ≡ Some (owner.Queue q Completion)

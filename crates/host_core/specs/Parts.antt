@@ -5,7 +5,7 @@ use Rattle.page_memory.specs.Pages.{Pages}
 use Rattle.slot_table.specs.Rows.{Row}
 use Rattle.host_core.specs.{Rows.RecordRow, Tables.Tables, Whole.IsWhole, declared.tables.HostTables.HostTables}
 
--- a command's record, by the place where it stands
+-- a command's record, by its slot
 abbrev pub record_of : ℕ → ℕ → RecordRow → Record
 record_of q cid kept =
     record {

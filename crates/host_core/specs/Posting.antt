@@ -6,7 +6,7 @@ use Rattle.page_memory.specs.{Pages.{IsPool, page_at, with_page_bytes}, declared
 use Rattle.queue_pair.specs.{Memory.{half_pages, submission_place}, Rings.next_tail, Slots.is_full}
 use Rattle.host_core.specs.{Rows.Queue, Tables.Tables, Whole.AreQueues}
 
--- the tables with these bytes in memory, from a place on, all in one page
+-- the tables with these bytes in memory, starting at an address, all in one page
 abbrev pub overwritten : ℕ → List ℕ → Tables → Tables
 overwritten place bytes t = record t { pages = with_page_bytes t.pages (place / 4096) (place % 4096) bytes }
 
@@ -18,7 +18,7 @@ with_tail_moved queue = record queue { host = record queue.host { ring = next_ta
 abbrev pub tail_place : Queue → ℕ
 tail_place queue = submission_place queue.host.sq queue.host.ring.tail
 
--- the tables with an entry behind the tail of a queue
+-- the tables with an entry posted at the tail of a queue
 abbrev pub posted : ℕ → Queue → SubEntry → Tables → Tables
 posted q queue entry t = record (overwritten (tail_place queue) (submission_bytes entry) t) { queues = change q with_tail_moved t.queues }
 

@@ -15,7 +15,7 @@ use Rattle.machine_model.specs.Events as events
 abbrev pub lacks_completion : Option Queue → Bool
 lacks_completion o = not (option_map_or (λ queue. is_reaped queue.state) o false)
 
--- the place of a completion slot of a queue whose completions are reaped
+-- the address of a completion slot of a queue whose completions are reaped
 pub record IsCompletionSlot (t : Tables) (q slot place : ℕ) : Type 0 where
   pub queue : Queue
   pub at : slice_get t.queues q ≡ Some queue
@@ -23,7 +23,7 @@ pub record IsCompletionSlot (t : Tables) (q slot place : ℕ) : Type 0 where
   pub below : slot < t.entries
   pub there : place ≡ completion_place queue.host.cq slot
 
--- a queue of which the completion at the head was taken
+-- a queue whose completion at the head was taken
 abbrev pub with_completion_taken : Queue → Queue
 with_completion_taken queue = record queue { host = record queue.host { ring = next_head queue.host.entries queue.host.ring } }
 
@@ -34,11 +34,11 @@ with_head_known sqhd queue = record queue { host = record queue.host { ring = kn
 abbrev pub consumed : ℕ → Tables → Tables
 consumed q t = record t { queues = change q with_completion_taken t.queues }
 
--- a queue of which a completion was taken that tells the controller's submission head
+-- a queue from which a completion that tells the controller's submission head was taken
 abbrev pub with_completion_heard : ℕ → Queue → Queue
 with_completion_heard sqhd queue = with_head_known sqhd (with_completion_taken queue)
 
--- the tables once a completion was taken that tells the controller's submission head
+-- the tables once a completion that tells the controller's submission head was taken
 abbrev pub heard : ℕ → ℕ → Tables → Tables
 heard q sqhd t = record t { queues = change q (with_completion_heard sqhd) t.queues }
 

@@ -8,7 +8,7 @@ use Rattle.queue_pair.specs.Rings.{fresh_host_ring}
 use Rattle.host_core.specs.{Alone.{HostView, alone}, Commands.{claims_changed, without_claim}, Halves.half_of, Laws.shown, Rows.Queue, Tables.{Tables, view_of}, Whole.ClaimIdentifiers}
 use Rattle.page_ledger.specs.declared.owner.Owner.TheVariants as owner
 
--- What contracts see: the host and the pages that the machine with no controller has behind a reset
+-- What contracts see: the host and the pages that the machine with no controller has after a reset
 abbrev pub host_reset : HostView → Pages → HostView
 host_reset v pages = shown (after_reset (alone v pages))
 
@@ -80,9 +80,9 @@ with_io_queues_gone t = record t { owners = given_back is_of_io_queue t.owners; 
 abbrev pub tables_reset : Tables → Tables
 tables_reset t = with_io_queues_gone (with_records_reset (with_admin_renewed t))
 
--- What the parts of a reset lean on
+-- What the parts of a reset rely on
 
--- A command stands in a place of a queue that there is, and one that the host sends itself on queue 0.
+-- A command is in a record slot of an existing queue, and one that the host sends itself on queue 0.
 pub record IsPlaced (entries queues : ℕ) (r : Record) : Type 0 where
   pub queue : r.q < queues
   pub identifier : r.cid < entries - 1
@@ -99,14 +99,14 @@ pub record HasClaims (t : Tables) : Type 0 where
   pub differ : IdentifiersDiffer (view_of t).host
   pub claims : ClaimIdentifiers t.records t.queues
 
--- What a queue owns of a half are the pages of the half, and none where it has not the half.
+-- What a queue owns of a half are the pages of the half, and none where it does not have the half.
 pub record ListsHalf (t : Tables) (q : ℕ) (half : Half) : Type 0 where
   pub queue : Queue
   pub at : slice_get t.queues q ≡ Some queue
   pub entries : queue.host.entries ≡ t.entries
   pub lists : ListsAll (is_half q half) t.owners (half_of half queue)
 
--- So it is of all queues, and no other queue owns a page.
+-- The same holds of all queues, and no other queue owns a page.
 pub record ListHalves (t : Tables) : Type 0 where
   pub few_queues : length t.queues ≤ 65
   pub inside : (p q : ℕ) (half : Half) → owner_at t.owners p ≡ Some (owner.Queue q half) → q < length t.queues

@@ -32,7 +32,7 @@ right_of_owner records (Queue q Submission) = right.Read
 right_of_owner records (Queue q Completion) = right.Write
 right_of_owner records (Command q cid role) = option_map_or (λ r. right_of_role r role) (find (is_at q cid) records) right.Nothing
 
--- the owner of a page: that of the claim in which it stands, if it is a page of the pool
+-- the owner of a page: that of the claim that it is in, if it is a page of the pool
 abbrev pub owner_of : Host → ℕ → Option Owner
 owner_of h p = option_map (λ claim. claim.1) (find (λ claim. claim.0 == p) (claims_of h))
 

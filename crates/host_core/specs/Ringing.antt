@@ -14,7 +14,7 @@ tail_of v q = option_map (λ queue. queue.ring.tail) (slice_get v.host.queues q)
 abbrev pub head_of : HostView → ℕ → Option ℕ
 head_of v q = option_map (λ queue. queue.ring.head) (slice_get v.host.queues q)
 
--- the head that is to be rung after a reap: none where no completion was taken
+-- the head to write to the doorbell after a reap: none where no completion was taken
 abbrev pub head_rung : HostView → ℕ → Reaped → Option ℕ
 head_rung v q Empty = None
 head_rung v q (Done cid status) = head_of v q

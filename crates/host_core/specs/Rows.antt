@@ -10,7 +10,7 @@ use Rattle.host_core.specs.declared.queue.Queue as queue
 abbrev pub Queue : Type 0
 Queue = queue.Queue HostSide
 
--- what the host keeps of an outstanding command in its place: all but the queue and the identifier
+-- what the host keeps of an outstanding command in its slot: all but the queue and the identifier
 pub record RecordRow : Type 0 where
   pub phase : Phase
   pub work : Work
@@ -19,7 +19,7 @@ pub record RecordRow : Type 0 where
   pub status : Option Status
   pub hints : Hints
 
--- how many of the rows stand in places of a queue
+-- how many of the rows are in slots of a queue
 abbrev pub rows_on : ℕ → List (Row RecordRow) → ℕ
 rows_on q [] = 0
 rows_on q (row ∷ rows) = if row.q == q then rows_on q rows + 1 else rows_on q rows

@@ -39,7 +39,7 @@ record_of_admin kind cid =
 abbrev pub noted : AdminKind → ℕ → Tables → Tables
 noted kind cid t = record t { records = t.records ++ record_of_admin kind cid ∷ []; queues = change 0 (with_claim cid) t.queues }
 
--- and its entry stands behind the tail of queue 0
+-- and its entry is posted at the tail of queue 0
 abbrev pub sent : AdminKind → ℕ → Queue → Tables → Tables
 sent kind cid queue t = posted 0 (with_claim cid queue) (admin_entry kind cid) (noted kind cid t)
 
@@ -55,12 +55,12 @@ asked (CreateSq q n base) t = t
 abbrev pub renewed : (sq cq : ℕ) → HostSide → HostSide
 renewed sq cq side = record side { sq = sq; cq = cq; ring = fresh_host_ring; claimed = none_claimed (side.entries - 1) }
 
--- a queue whose half is granted from a page on
+-- a queue whose half is granted starting at a page
 abbrev pub making : Half → ℕ → Queue → Queue
 making Completion first queue = record queue { state = MakingCq; host = renewed queue.host.sq first queue.host }
 making Submission first queue = record queue { state = MakingSq; host = renewed first queue.host.cq queue.host }
 
--- the pages of a half from its first on
+-- the pages of a half starting at its first
 abbrev pub half_from : Tables → Half → ℕ → List ℕ
 half_from t half first = pages_from first (half_pages t.entries half)
 
@@ -91,7 +91,7 @@ abbrev pub Creates : Tables → Half → (q : ℕ) → Option ℕ → (cid first
 Creates t half q vector cid first new =
     (queue : Queue) → slice_get t.queues 0 ≡ Some queue → new ≡ sent (creation half q t.entries first vector) cid queue (granted half q first t)
 
--- what is against a command for the queue and the command that it names
+-- what rules out a command for the queue and the command that it names
 abbrev pub named_causes : State → AdminKind → List (Bool × Refusal)
 named_causes s (Abort q cid) =
     (no_io_queue s q, refusal.NoQueue)
@@ -118,13 +118,13 @@ pub record HasSlot (t : Tables) (cid : ℕ) : Type 0 where
   pub next : position not queue.host.claimed ≡ Some cid
   pub room : is_full queue.host.entries queue.host.ring.known_head queue.host.ring.tail ≡ false
 
--- Nothing is against a sending with no half granted.
+-- Nothing rules out a sending with no half granted.
 pub record CanSend (t : Tables) (kind : AdminKind) (cid : ℕ) : Type 0 where
   pub plain : grants_none kind ≡ true
   pub none : refusal_of (state_of t) (sending kind) ≡ None
   pub slot : HasSlot t cid
 
--- Nothing is against the making of a half, whatever its vector is, and the lowest run of free pages for it begins at this page.
+-- Nothing rules out the making of a half, whatever its vector is, and the lowest run of free pages for it begins at this page.
 pub record CanCreate (t : Tables) (half : Half) (q cid first : ℕ) : Type 0 where
   pub none : (vector : Option ℕ) → refusal_of (state_of t) (creating half q vector) ≡ None
   pub slot : HasSlot t cid

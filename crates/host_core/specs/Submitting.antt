@@ -20,7 +20,7 @@ submitted d queue entry t = posted d.q queue entry (brought_in d t)
 abbrev pub Submits : Tables → DraftContents → SubEntry → Tables → Type 0
 Submits t d entry new = (queue : Queue) → slice_get t.queues d.q ≡ Some queue → new ≡ submitted d queue entry t
 
--- Nothing is against a submission: the draft is proper and its record's, it is built and its entry fits, its queue is live and has room.
+-- Nothing rules out a submission: the draft is proper and its record's, it is built and its entry fits, its queue is live and has room.
 pub record CanSubmit (t : Tables) (d : DraftContents) (x : Queue) (entry : SubEntry) : Type 0 where
   pub none : refusal_of (state_of t) (events.Submit d) ≡ None
   pub proper : IsProperDraft d

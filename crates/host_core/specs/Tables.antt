@@ -6,7 +6,7 @@ use Rattle.page_memory.specs.{Pages.Pages, declared.page.Half.TheVariants.{Submi
 use Rattle.queue_pair.specs.Memory.{half_pages}
 use Rattle.host_core.specs.{Alone.{HostView, alone}, Rows.Queue}
 
--- the tables of a host: who owns each page, the outstanding commands, with how many queues they have places for and how many places of
+-- the tables of a host: who owns each page, the outstanding commands, with how many queues they have slots for and how many slots of
 -- each, and the queues; beside them how many entries each ring and how many descriptors a full segment
 -- has, whom the host speaks to, and the pages, in or out
 pub record Tables : Type 0 where
@@ -20,7 +20,7 @@ pub record Tables : Type 0 where
   pub records : List Record
   pub queues : List Queue
 
--- the pages of a queue's halves, from the first page of each on, until they are given back
+-- the pages of a queue's halves, starting at the first page of each, until they are given back
 abbrev pub sq_pages_of : Queue → List ℕ
 sq_pages_of queue =
     if has_sq queue.state then pages_from queue.host.sq (half_pages queue.host.entries Submission) else []

@@ -7,7 +7,7 @@ use Rattle.machine_model.specs.Events as events
 use Rattle.machine_model.specs.declared.words.Refusal.TheVariants as refusal
 
 -- One page is written where an entry is posted, and one is read where a completion ring is looked at: by a reap, and by a retirement
--- that ends, or finds the ring not drained. Each page counts that is taken out: for a draft or a finished command, and to be made zero, as
+-- that ends, or finds the ring not drained. Each page that is taken out counts: for a draft or a finished command, and to be made zero, as
 -- are those of a half that is granted, and those of queue 0 at a reset. Pages that come in count as none.
 
 abbrev pub accepted_touches : ℕ → Event → ℕ
@@ -39,14 +39,14 @@ pub record IsUntouched (s : Contents) : Type 0 where
   pub touched : s.touched ≡ []
   pub unlisted : s.unlisted ≡ 0
 
--- a store counts just so many touches more than before
+-- a store counts exactly this many more touches than before
 abbrev pub TouchesBy : ℕ → Contents → Contents → Type 0
 TouchesBy n old new = TouchesMore old.unlisted old.touched n new.unlisted new.touched
 
--- as many as the host's event touches that was answered so
+-- as many as the host's event with this answer touches
 abbrev pub HostTouches : (n : ℕ) → Contents → Event → Reply → Contents → Type 0
 HostTouches n old e reply new = TouchesBy (host_touches n e reply) old new
 
--- a store counts so many touches more than before, or fewer
+-- a store counts this many more touches than before, or fewer
 abbrev pub TouchesAtMost : ℕ → Contents → Contents → Type 0
 TouchesAtMost most old new = (n : ℕ) × (n ≤ most) × TouchesBy n old new

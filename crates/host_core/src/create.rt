@@ -61,7 +61,7 @@ impl<A: Allocator> HostTables<A> {
         false
     }
 
-    /// Whether something of the named queue is against the creation of its completion queue.
+    /// Whether something about the named queue rules out the creation of its completion queue.
     pub(crate) fn check_create_cq(&self, q: u16) -> Result<(), Refusal>
         requires { IsHost (tables_of self.now []) }
         ensures free { OnOk result ((pages : Pages) → first_passing (named_causes (state_of (tables_of self.now pages)) (kinds.CreateCq q 0 0 None)) ≡ None) }
@@ -81,7 +81,7 @@ impl<A: Allocator> HostTables<A> {
         Ok(())
     }
 
-    /// Whether something of the named queue is against the creation of its submission queue.
+    /// Whether something about the named queue rules out the creation of its submission queue.
     pub(crate) fn check_create_sq(&self, q: u16) -> Result<(), Refusal>
         requires { IsHost (tables_of self.now []) }
         ensures free { OnOk result ((pages : Pages) → first_passing (named_causes (state_of (tables_of self.now pages)) (kinds.CreateSq q 0 0)) ≡ None) }
@@ -101,7 +101,7 @@ impl<A: Allocator> HostTables<A> {
         Ok(())
     }
 
-    /// Whether something of the named queue is against the making of its half.
+    /// Whether something about the named queue rules out the making of its half.
     fn check_half(&self, q: u16, half: Half) -> Result<(), Refusal>
         requires { IsHost (tables_of self.now []) }
         ensures free { OnOk result ((pages : Pages) → first_passing (named_causes (state_of (tables_of self.now pages)) (creation half q 0 0 None)) ≡ None) }
@@ -113,7 +113,7 @@ impl<A: Allocator> HostTables<A> {
         }
     }
 
-    /// Whether something is against the making of a half of a queue, and what it gets where nothing is.
+    /// Whether something rules out the making of a half of a queue, and what it gets where nothing does.
     fn check_create(&self, q: u16, half: Half) -> Result<Creation, Refusal>
         requires { IsHost (tables_of self.now []) }
         ensures ready { IfOk result (λ creation. Over self.now (λ t. CanCreate t half q creation.cid creation.first)) }
@@ -137,7 +137,7 @@ impl<A: Allocator> HostTables<A> {
     }
 }
 
-/// Notes that a queue is granted a half, from a page on: its rings are as they open.
+/// Notes that a queue is granted a half, starting at a page: its rings are as they open.
 fn make<A: Allocator>(queue: &mut Queue<HostPair<A>>, half: Half, first: PageNo)
     ensures { queue.new ≡ making half first queue.old }
 {
@@ -155,7 +155,7 @@ fn make<A: Allocator>(queue: &mut Queue<HostPair<A>>, half: Half, first: PageNo)
     }
 }
 
-/// The command that makes a half of a queue, of so many entries, from a page on; a completion half is polled, or has interrupts on a vector.
+/// The command that makes a half of a queue, of this many entries, starting at a page; a completion half is polled, or has interrupts on a vector.
 fn command(half: Half, q: u16, entries: u16, first: PageNo, vector: Option<u16>) -> AdminKind
     requires { first < 65536 }
     ensures { result ≡ creation half q entries first vector }
@@ -212,7 +212,7 @@ impl<A: Allocator + Copy> HostTables<A> {
 }
 
 impl<A: Allocator + Copy> Host<A> {
-    /// Makes a half of a queue, where nothing is against it.
+    /// Makes a half of a queue, where nothing rules it out.
     fn create(
         &mut self,
         store: &mut Store<A>,
@@ -236,7 +236,7 @@ impl<A: Allocator + Copy> Host<A> {
     }
 
     /// Makes the completion queue of a queue that is gone (NVM Express Base Specification 2.0, "Create I/O Completion Queue command",
-    /// section 5.4): its half is granted, in and zero, and the command that creates it stands behind the tail of queue 0 under the
+    /// section 5.4): its half is granted, in and zero, and the command that creates it is posted at the tail of queue 0 under the
     /// identifier that is answered, the lowest that is free. It has interrupts on a vector, or is polled: the command tells the device so, and
     /// interrupts are the caller's.
     ///
@@ -261,7 +261,7 @@ impl<A: Allocator + Copy> Host<A> {
     }
 
     /// Makes the submission queue of a queue that is half made (NVM Express Base Specification 2.0, "Create I/O Submission Queue
-    /// command", section 5.5): its half is granted, in and zero, and the command that creates it stands behind the tail
+    /// command", section 5.5): its half is granted, in and zero, and the command that creates it is posted at the tail
     /// of queue 0 under the identifier that is answered, the lowest that is free.
     ///
     /// # Errors

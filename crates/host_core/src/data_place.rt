@@ -40,7 +40,7 @@ fn place_among(pieces: &[Piece], pages: &[PageNo], i: usize) -> Option<DataPlace
 }
 
 impl<A: Allocator> Host<A> {
-    /// Where data piece `i` of an outstanding command lies; pieces are counted from 0, and buckets are left aside. None where no such
+    /// Where data piece `i` of an outstanding command lies; pieces are counted from 0, and buckets are skipped. None where no such
     /// command is outstanding, or it has no such piece.
     pub fn place(&self, q: u16, cid: u16, i: usize) -> Option<DataPlace>
         ensures { result ≡ place_at self.now.host q cid i }

@@ -16,7 +16,7 @@ pub struct Doorbell {
 const FIRST: u32 = 4096;
 /// How many bytes lie from a queue's doorbells to the next queue's.
 const EACH: u32 = 8;
-/// How many bytes lie from a tail doorbell to the head doorbell behind it.
+/// How many bytes lie from a tail doorbell to the head doorbell after it.
 const HEAD: u32 = 4;
 
 impl Doorbell {

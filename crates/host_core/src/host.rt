@@ -6,11 +6,19 @@ use std::alloc::{Allocator, Global};
 use std::marker::Model;
 
 /// A host. Contracts see it as the machine's host, with the entries of its rings and the descriptors of a full segment.
-#[derive(Drop)]
 pub struct Host<A: Allocator = Global> {
     pub(crate) parts: HostTables<A>,
     /// The lists of commands that are over. Contracts see nothing of them.
     pub(crate) spares: Spares<A>,
+}
+
+impl<A: Allocator> Drop for Host<A> {
+    fn drop(self) {
+        let Self {
+            parts: _,
+            spares: _,
+        } = self;
+    }
 }
 
 impl<A: Allocator> Model for Host<A> {

@@ -1,14 +1,14 @@
 //! The host alone: its queues, its outstanding commands, and who owns which page.
 //!
 //! A [`Host`] is a library for a driver: a call that reads or writes pages is lent them, as [`page_memory::Store`], in which the controller
-//! reads and writes too. Nothing of a controller is known here, and nothing that it wrote is trusted: a completion is what stands in its
+//! reads and writes too. Nothing of a controller is known here, and nothing that it wrote is trusted: a completion is what is in its
 //! slot, and one that fits no submitted command is rejected. What crosses is memory, and the values that are to be written to the two
 //! doorbells of a queue, which [`Host::ring`] and [`Host::reap`] answer (NVM Express Base Specification 2.0, "Memory-based transport queue
 //! model", section 3.3.1).
 //!
-//! The contract of each call holds against any controller, whatever bytes stand in the pages: each event but a reset is a step of the
+//! The contract of each call holds against any controller, whatever bytes are in the pages: each event but a reset is a step of the
 //! machine that `machine_model` defines, with no controller in it, and [`Host::reset`] leaves exactly what a reset leaves of that machine. A refusal is
-//! the first cause that holds, and then nothing changed and every moved value is handed back; else the answer, the host and the pages are
+//! the first cause that holds, and then nothing changed and every moved value is handed back; otherwise the answer, the host and the pages are
 //! the machine's. Between calls each page has one owner, the counts add up, and identifiers are distinct ([`Host::pages`]).
 #![tactic(auto)]
 

@@ -31,7 +31,7 @@ fn cause(why: Refusal) -> Option<Refusal>
 }
 
 impl<A: Allocator + Copy> Host<A> {
-    /// What [`Host::reserve`] would be refused for, want of memory left aside, over any pages that are the host's.
+    /// What [`Host::reserve`] would be refused for, ignoring want of memory, over any pages that are the host's.
     pub fn reserve_refusal(&self, q: u16, request: &Request<A>) -> Option<Refusal>
         ensures { (pages : Pages) → IsOver self.now pages → result ≡ refusal_of (alone self.now pages) (events.Reserve q request.now) }
     {
@@ -57,7 +57,7 @@ impl<A: Allocator> Host<A> {
         Ok(request.least_pages(self.parts.segment))
     }
 
-    /// What [`Host::collect`] of this command's ticket would be refused for, want of memory left aside, over any pages that are the
+    /// What [`Host::collect`] of this command's ticket would be refused for, ignoring want of memory, over any pages that are the
     /// host's.
     pub fn collect_refusal(&self, q: u16, cid: u16) -> Option<Refusal>
         ensures { (pages : Pages) → IsOver self.now pages → result ≡ refusal_of (alone self.now pages) (events.Collect q cid) }
@@ -93,7 +93,7 @@ impl<A: Allocator> Host<A> {
         self.parts.entries
     }
 
-    /// The address at which a queue's completion ring begins, as long as its completions are reaped.
+    /// The address at which a queue's completion ring begins, while its completions are reaped.
     pub fn completion_base(&self, q: u16) -> Option<u64>
         ensures base { result ≡ spec_completion_base self.now q }
         ensures there { is_some result ≡ in_state is_reaped (alone self.now []) q }

@@ -78,7 +78,7 @@ impl<A: Allocator + Copy> Host<A> {
     }
 }
 
-/// Why it opens no host, want of memory left aside.
+/// Why it opens no host, ignoring want of memory.
 fn refusal_of(config: Config) -> Option<OpenRefusal>
     ensures { result ≡ refusal_of_config config }
 {
@@ -120,7 +120,7 @@ fn pages_needed(config: Config) -> u32
         * (half_pages(entries, Half::Submission) + half_pages(entries, Half::Completion))
 }
 
-/// The pages, their owners, the places for records and the queues of a host that opens.
+/// The pages, their owners, the slots for records and the queues of a host that opens.
 fn open_tables<A: Allocator + Copy>(
     alloc: A,
     config: Config,
@@ -177,7 +177,7 @@ fn open_queues<A: Allocator + Copy>(
     Ok(queues)
 }
 
-/// A queue that opens, with its halves from these pages on.
+/// A queue that opens, with its halves starting at these pages.
 fn open_queue<A: Allocator + Copy>(
     alloc: A,
     q: u16,
@@ -224,7 +224,7 @@ fn grant_halves<A: Allocator>(ledger: &mut Ledger<A>, q: u16, entries: u16) -> (
     (sq, cq)
 }
 
-/// Gives the lowest run of so many free pages to an owner, and answers its first page.
+/// Gives the lowest run of this many free pages to an owner, and answers its first page.
 fn grant_half<A: Allocator>(ledger: &mut Ledger<A>, owner: Owner, pages: u32) -> PageNo
     requires some { 0 < pages }
     requires owned { is_free owner ≡ false }

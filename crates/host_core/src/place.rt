@@ -14,7 +14,7 @@ use page_ledger::{Ledger, NoPages, Owner, Role};
 use page_memory::{MAX_PAGES, PageNo};
 use std::alloc::Allocator;
 
-/// What a request gets: an identifier, and so many pages for its data and for its chain.
+/// What a request gets: an identifier, and this many pages for its data and for its chain.
 #[derive(Clone, Copy)]
 pub(crate) struct Grant {
     pub(crate) cid: u16,
@@ -22,8 +22,8 @@ pub(crate) struct Grant {
     pub(crate) chain_pages: u32,
 }
 
-/// How many chain pages a good request takes whose data has the lowest free pages. Their list stands on the stack, which costs more to
-/// make than all else here, so it is no part of the way of a request whose data has a run.
+/// How many chain pages a good request takes whose data has the lowest free pages. Their list is on the stack, which costs more to
+/// make than all else here, so it is not on the path of a request whose data has a run.
 #[inline(never)]
 fn scattered_chain<A: Allocator, B: Allocator>(
     ledger: &Ledger<A>,
@@ -90,7 +90,7 @@ pub(crate) fn pages_wanted<A: Allocator, B: Allocator>(
     Ok((data_pages, need - data_pages))
 }
 
-/// Places so many pages: the lowest run of free pages where there is one, else the lowest free pages, get the owner.
+/// Places this many pages: the lowest run of free pages where there is one, else the lowest free pages, get the owner.
 fn place<A: Allocator>(ledger: &mut Ledger<A>, owner: Owner, count: u32, into: &mut Vec<PageNo, A>)
     requires owned { is_free owner ≡ false }
     requires enough { count ≤ length (free_pages ledger.old) }

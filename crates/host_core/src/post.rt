@@ -16,14 +16,14 @@ use page_memory::{MAX_PAGES, Store, TouchRecord};
 use queue_pair::HostPair;
 use std::alloc::Allocator;
 
-/// Whether a submission ring of so many entries is full: one more entry would bring its tail to the head that the host knows.
+/// Whether a submission ring of this many entries is full: one more entry would bring its tail to the head that the host knows.
 fn is_full<A: Allocator>(pair: &HostPair<A>, entries: u16) -> bool
     requires { pair.now.entries ≡ entries }
     ensures { result ≡ spec_is_full pair.now.entries pair.now.ring.known_head pair.now.ring.tail }
 {
     let tail = pair.ring_value();
     let next = if tail + 1 == entries { 0 } else { tail + 1 };
-    // From the known head to the tail, the slot behind the tail can only be the known head itself.
+    // From the known head to the tail, the slot after the tail can only be the known head itself.
     pair.head_fits(next)
 }
 
@@ -37,7 +37,7 @@ impl<A: Allocator> HostTables<A> {
         is_full(&self.queues[usize::from(q)].host, self.entries)
     }
 
-    /// Posts an entry behind the tail of a queue that has room for it.
+    /// Posts an entry at the tail of a queue that has room for it.
     pub(crate) fn post(&mut self, store: &mut Store<A>, q: u16, entry: SubEntry)
         requires there { q < length self.old.queues.items }
         requires can { CanPostTo (tables_of self.old store.old.pages) q entry }

@@ -33,7 +33,7 @@ use std::alloc::Allocator;
 pub struct Reap {
     /// What was found.
     pub found: Reaped,
-    /// Where a completion was taken, the value to ring for the completion queue's head doorbell.
+    /// Where a completion was taken, the value for the completion queue's head doorbell.
     pub head: Option<u16>,
 }
 
@@ -234,7 +234,7 @@ impl<A: Allocator> Host<A> {
     /// pages of a command of the caller's stay its own, and it is held until it is collected. One that the host sent itself is over: a queue
     /// that it deletes or makes takes the state that this end means; the completion half of a deleted completion queue that was left alone,
     /// and the half of a failed creation, are given back. The submission head that the completion of a command tells is known from then on.
-    /// Where a completion was taken, the head is to be rung.
+    /// Where a completion was taken, the head doorbell is to be written.
     ///
     /// # Errors
     ///

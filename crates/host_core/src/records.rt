@@ -25,7 +25,7 @@ impl<A: Allocator> HostTables<A> {
         }
     }
 
-    /// Keeps a new command, behind all others.
+    /// Keeps a new command, after all others.
     pub(crate) fn add_record(&mut self, q: u16, cid: u16, entry: Record<A>)
         requires place { IsPlace self.old.records q cid }
         requires empty { value_at self.old.records.rows q cid ≡ None }

@@ -36,7 +36,7 @@ struct Room<A: Allocator> {
     request: Request<A>,
 }
 
-/// Lists for a command that gets so many pages, and a copy of its request.
+/// Lists for a command that gets this many pages, and a copy of its request.
 fn make_room<A: Allocator + Copy>(
     spares: &mut Spares<A>,
     alloc: A,

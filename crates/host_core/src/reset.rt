@@ -154,7 +154,7 @@ impl<A: Allocator> Host<A> {
     ///
     /// Each command of the caller's that was submitted is held with the status "Command Aborted due to SQ Deletion", and one that is drafted,
     /// held or collected stays as it is; those that the host sent itself are over. Each I/O queue is gone, and the pages of its halves are
-    /// free. Queue 0 is as it opened: the same pages, all zero, and both rings empty. Nothing is to be rung.
+    /// free. Queue 0 is as it opened: the same pages, all zero, and both rings empty. No doorbell is to be written.
     pub fn reset(&mut self, store: &mut Store<A>)
         requires { IsOver self.old store.old.pages }
         ensures host { self.new ≡ host_reset self.old store.old.pages }

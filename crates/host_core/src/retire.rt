@@ -79,7 +79,7 @@ impl<A: Allocator> Host<A> {
     /// # Errors
     ///
     /// Neither the host nor a page changed. 1. `NotDeleted` where there is no such queue, or the success of its deletion was not reaped, or
-    /// the queue was retired or the host reset since. 2. `NotDrained` where a new completion stands at the head of its completion ring.
+    /// the queue was retired or the host reset since. 2. `NotDrained` where a new completion is at the head of its completion ring.
     pub fn retire(&mut self, store: &mut Store<A>, q: u16) -> Result<(), Refusal>
         requires { IsOver self.old store.old.pages }
         ensures step { HostStep self.old store.old.pages (events.Retire q) (ring_reply result) self.new store.new.pages }

@@ -13,7 +13,7 @@ use machine_model::words::Refusal;
 use std::alloc::Allocator;
 
 impl<A: Allocator> Host<A> {
-    /// The value to ring for a queue's submission tail doorbell (NVM Express over PCIe Transport Specification 1.0, "Doorbell registers",
+    /// The value for a queue's submission tail doorbell (NVM Express over PCIe Transport Specification 1.0, "Doorbell registers",
     /// section 3.1.2): then the controller may fetch all that was submitted to it. The host stays as it is.
     ///
     /// # Errors

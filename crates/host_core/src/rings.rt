@@ -12,7 +12,7 @@ use queue_pair::HostPositions;
 use std::alloc::Allocator;
 
 impl<A: Allocator> HostTables<A> {
-    /// How many records stand in the places of a queue.
+    /// How many records are in the slots of a queue.
     fn count_records(&self, q: u16) -> usize
         ensures { result ≡ rows_on q self.now.records.rows }
     {

@@ -72,7 +72,7 @@ impl<A: Allocator> HostTables<A> {
 }
 
 impl<A: Allocator + Copy> HostTables<A> {
-    /// Whether something of the named queue or command is against an Abort.
+    /// Whether something about the named queue or command rules out an Abort.
     fn check_abort(&self, q: u16, cid: u16) -> Result<(), Refusal>
         ensures free { OnOk result ((pages : Pages) → first_passing (named_causes (state_of (tables_of self.now pages)) (kinds.Abort q cid)) ≡ None) }
         ensures refused { IfErr result (λ why. (pages : Pages) → Refuses (state_of (tables_of self.now pages)) (events.Abort q cid) why []) }
@@ -90,7 +90,7 @@ impl<A: Allocator + Copy> HostTables<A> {
         Ok(())
     }
 
-    /// Whether something of the named queue is against the deletion of its submission side.
+    /// Whether something about the named queue rules out the deletion of its submission side.
     fn check_delete_sq(&self, q: u16) -> Result<(), Refusal>
         ensures free { OnOk result ((pages : Pages) → first_passing (named_causes (state_of (tables_of self.now pages)) (kinds.DeleteSq q)) ≡ None) }
         ensures refused { IfErr result (λ why. (pages : Pages) → Refuses (state_of (tables_of self.now pages)) (events.DeleteSq q) why []) }
@@ -105,7 +105,7 @@ impl<A: Allocator + Copy> HostTables<A> {
         Ok(())
     }
 
-    /// Whether something of the named queue is against the deletion of its completion side.
+    /// Whether something about the named queue rules out the deletion of its completion side.
     fn check_delete_cq(&self, q: u16) -> Result<(), Refusal>
         requires { IsHost (tables_of self.now []) }
         ensures free { OnOk result ((pages : Pages) → first_passing (named_causes (state_of (tables_of self.now pages)) (kinds.DeleteCq q)) ≡ None) }
@@ -124,7 +124,7 @@ impl<A: Allocator + Copy> HostTables<A> {
         Ok(())
     }
 
-    /// Whether something that a command names is against it.
+    /// Whether something that a command names rules it out.
     fn check_named(&self, kind: AdminKind) -> Result<(), Refusal>
         requires { IsHost (tables_of self.now []) }
         ensures free { OnOk result ((pages : Pages) → first_passing (named_causes (state_of (tables_of self.now pages)) kind) ≡ None) }
@@ -210,7 +210,7 @@ impl<A: Allocator + Copy> HostTables<A> {
 }
 
 impl<A: Allocator + Copy> Host<A> {
-    /// Sends an admin command for which no half is granted, where nothing is against it.
+    /// Sends an admin command for which no half is granted, where nothing rules it out.
     fn send(&mut self, store: &mut Store<A>, kind: AdminKind) -> Result<u16, Refusal>
         requires over { IsOver self.old store.old.pages }
         requires plain { grants_none kind ≡ true }
@@ -227,7 +227,7 @@ impl<A: Allocator + Copy> Host<A> {
         Ok(cid)
     }
 
-    /// Sends an Abort of a submitted command (NVM Express Base Specification 2.0, "Abort command", section 5.1). It stands behind the
+    /// Sends an Abort of a submitted command (NVM Express Base Specification 2.0, "Abort command", section 5.1). It is posted at the
     /// tail of queue 0 under the identifier that is answered, the lowest that is free.
     ///
     /// # Errors
@@ -246,7 +246,7 @@ impl<A: Allocator + Copy> Host<A> {
     }
 
     /// Sends the deletion of a submission queue, which takes no more commands (NVM Express Base Specification 2.0, "Delete I/O
-    /// Submission Queue command", section 5.7). It stands behind the tail of queue 0 under the identifier that is answered, the lowest that
+    /// Submission Queue command", section 5.7). It is posted at the tail of queue 0 under the identifier that is answered, the lowest that
     /// is free.
     ///
     /// # Errors
@@ -265,7 +265,7 @@ impl<A: Allocator + Copy> Host<A> {
     }
 
     /// Sends the deletion of a completion queue (NVM Express Base Specification 2.0, "Delete I/O Completion Queue command", section 5.6).
-    /// It stands behind the tail of queue 0 under the identifier that is answered, the lowest that is free.
+    /// It is posted at the tail of queue 0 under the identifier that is answered, the lowest that is free.
     ///
     /// # Errors
     ///

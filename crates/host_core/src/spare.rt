@@ -9,14 +9,14 @@ use std::alloc::{AllocError, Allocator};
 /// The lists of how many commands are kept at most (own).
 const MOST_COMMANDS: usize = 64;
 
-/// Lists of one kind that nobody uses any more, up to a number that is set at the opening. What stands in them says nothing.
+/// Lists of one kind that nobody uses any more, up to a number that is set at the opening. Their contents mean nothing.
 #[derive(Drop)]
 pub(crate) struct Lists<T: Drop, A: Allocator> {
     lists: Vec<Vec<T, A>, A>,
 }
 
 impl<T: Drop, A: Allocator> Lists<T, A> {
-    /// None yet, with places for so many.
+    /// None yet, with room for this many.
     ///
     /// # Errors
     ///
@@ -27,7 +27,7 @@ impl<T: Drop, A: Allocator> Lists<T, A> {
         })
     }
 
-    /// An empty list with room for so many, in the memory of a list that was kept, where there is one.
+    /// An empty list with room for this many, in the memory of a list that was kept, where there is one.
     ///
     /// # Errors
     ///
@@ -49,7 +49,7 @@ impl<T: Drop, A: Allocator> Lists<T, A> {
         Ok(list)
     }
 
-    /// Keeps a list that has room, where there is a place for it. It takes no memory.
+    /// Keeps a list that has capacity, where there is room for it. It takes no memory.
     pub(crate) fn keep(&mut self, list: Vec<T, A>) {
         if list.capacity() > 0 && self.lists.len() < self.lists.capacity() {
             self.lists.push_reserved(list);
@@ -66,7 +66,7 @@ pub(crate) struct Spares<A: Allocator> {
 }
 
 impl<A: Allocator + Copy> Spares<A> {
-    /// None yet, with places for the lists of so many commands, at most 64.
+    /// None yet, with room for the lists of this many commands, at most 64.
     ///
     /// # Errors
     ///
@@ -90,7 +90,7 @@ impl<A: Allocator> Spares<A> {
         }
     }
 
-    /// Keeps pieces, where there is a place for them. It takes no memory.
+    /// Keeps pieces, where there is room for them. It takes no memory.
     pub(crate) fn keep_pieces(&mut self, pieces: Pieces<A>) {
         if self.pieces.len() < self.pieces.capacity() {
             self.pieces.push_reserved(pieces);

@@ -25,7 +25,7 @@ use page_memory::Store;
 use std::alloc::Allocator;
 
 impl<A: Allocator> HostTables<A> {
-    /// A draft's entry, where nothing is against its submission.
+    /// A draft's entry, where nothing rules out its submission.
     fn check_submit(&self, draft: &Draft<A>) -> Result<SubEntry, Refusal>
         requires { IsHost (tables_of self.now []) }
         ensures ready { IfOk result (λ entry. Over self.now (λ t. IsReady t draft.now entry)) }
@@ -72,9 +72,9 @@ impl<A: Allocator> HostTables<A> {
 }
 
 impl<A: Allocator> Host<A> {
-    /// Submits a draft that is built: its pages come in with their bytes, and its entry stands behind the tail of its queue (NVM
-    /// Express Base Specification 2.0, "Memory-based transport queue model", section 3.3.1). The controller may fetch it once the queue
-    /// is rung. The ticket is the draft's.
+    /// Submits a draft that is built: its pages come in with their bytes, and its entry is posted at the tail of its queue (NVM
+    /// Express Base Specification 2.0, "Memory-based transport queue model", section 3.3.1). The controller may fetch it once the tail
+    /// doorbell is written. The ticket is the draft's.
     ///
     /// # Errors
     ///

@@ -12,7 +12,7 @@ use page_memory::PageNo;
 use std::alloc::Allocator;
 
 impl<A: Allocator> Host<A> {
-    /// The owner of a page of the pool: that of the one claim in which it stands.
+    /// The owner of a page of the pool: that of the one claim that it is in.
     pub fn owner(&self, p: PageNo) -> Owner
         requires { p < total (counts_of self.now.host) }
         ensures { Contains (claims_of self.now.host) (p, result) }

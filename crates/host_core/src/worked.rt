@@ -22,7 +22,7 @@ pub fn worked_waiting()
     ensures tail { tail_of waiting 1 ≡ Some 1 }
 {}
 
-/// Its completion stands in the first slot, and is reaped: the head moves on, and the command can be collected.
+/// Its completion is in the first slot, and is reaped: the head moves on, and the command can be collected.
 pub fn worked_reap()
     ensures found { reaped (alone waiting (pages_with completion)) 1 ≡ Done 0 SUCCESS }
     ensures head { head_of (shown (after (alone waiting (pages_with completion)) (events.Reap 1) (events.Reaps (Done 0 SUCCESS)))) 1 ≡ Some 1 }

@@ -1,6 +1,7 @@
 -- What the controller makes of an entry of an I/O queue: its field checks, its data, and how it ends (NVM Command Set
 -- Specification 1.0, Compare, Read and Write).
-use Rattle.std.specs.Prelude.{◌≡◌, ◌↔◌, ◌≤◌, ◌+◌, ◌*◌, ◌-◌, ◌/◌, ◌%◌, ◌^◌, ◌==◌, ◌||◌, ℕ, Bool, false, not, nat_lt, is_none, IsSome, List, [], ◌∷◌, length, replicate, Option, Some, None, if◌then◌else◌}
+use Rattle.std.specs.Option.{option_map_or}
+use Rattle.std.specs.Prelude.{◌≡◌, ◌↔◌, ◌≤◌, ◌+◌, ◌*◌, ◌-◌, ◌/◌, ◌%◌, ◌^◌, ◌==◌, ◌&&◌, ◌||◌, ℕ, Bool, true, false, not, nat_lt, is_none, IsSome, List, [], ◌∷◌, length, replicate, Option, Some, None, if◌then◌else◌}
 use Rattle.std.specs.Str.{bytes_eq}
 use Rattle.block_image.specs.Blocks.{blocks_at, with_blocks}
 use Rattle.controller_walk.specs.{Units.{Course, Closes, course_of_list, first_passing}, declared.walk.{Walk.Walk, WalkState.WalkState}}
@@ -69,6 +70,17 @@ first_bytes image e None = []
 abbrev pub bytes_after_check : List ℕ → SubEntry → Option Status → List ℕ
 bytes_after_check image e (Some fault) = []
 bytes_after_check image e None = first_bytes image e (kind_of_opcode e.opcode)
+
+-- whether an entry begins a Read over an image of so many blocks, and lacks the blocks for it
+abbrev pub is_read : Option Kind → Bool
+is_read (Some Read) = true
+is_read kind = false
+
+abbrev pub begins_read : ℕ → SubEntry → Bool
+begins_read blocks e = is_none (io_fault blocks e) && is_read (kind_of_opcode e.opcode)
+
+abbrev pub lacks_read : (ℕ → ℕ → Bool) → ℕ → SubEntry → Bool
+lacks_read at_hand blocks e = not (at_hand (first_block e) (block_number e)) && begins_read blocks e
 
 -- A job: an entry that was fetched, over an image of so many blocks, with the bytes that it moves. One that failed a field
 -- check has no walk. It completes once it has a verdict.
@@ -152,6 +164,19 @@ image_after image e bytes None = image
 image_after image e bytes (Some verdict) =
     if is_success verdict then image_by image e bytes (kind_of_opcode e.opcode) else image
 
+-- The end of a job reads or writes blocks where its data was moved, and it is a Compare or a Write.
+abbrev pub ends_over_blocks : Option Kind → Bool
+ends_over_blocks (Some Write) = true
+ends_over_blocks (Some Compare) = true
+ends_over_blocks kind = false
+
+abbrev pub needs_blocks : JobContents → Bool
+needs_blocks job = option_map_or is_success job.verdict false && ends_over_blocks (kind_of_opcode job.entry.opcode)
+
+-- whether these blocks are not at hand
+abbrev pub lacks_blocks : (ℕ → ℕ → Bool) → JobContents → Bool
+lacks_blocks at_hand job = not (at_hand (first_block job.entry) (block_number job.entry)) && needs_blocks job
+
 -- the status that a job with a verdict completes with
 abbrev pub finished_status : List ℕ → JobContents → Status
 finished_status image job = status_after image job.entry job.bytes job.verdict
@@ -178,3 +203,7 @@ entry_over opcode first blocks =
       cdw14 = 0;
       cdw15 = 0;
     }
+
+-- and the job of one block that it is, as it stands with this verdict
+abbrev pub job_over : ℕ → Option Status → JobContents
+job_over opcode verdict = record { blocks = 1; entry = entry_over opcode 0 1; bytes = replicate 512 0; walk = None; verdict = verdict }

@@ -6,10 +6,10 @@ ghost use Rattle.block_image.specs.Blocks.{block_count};
 ghost use Rattle.controller_walk.specs.Walks.{DoesFirst, LeavesRest};
 ghost use Rattle.io_commands.specs.Requests.{is_admin, moves_data, opcode_of};
 ghost use Rattle.io_commands.specs.declared.request.Kind.{Kind};
-ghost use Rattle.io_commands.specs.Jobs.{IsJob, kind_of_opcode, first_block as spec_first_block, block_number as spec_block_number, need_of_entry, direction_of_entry, io_fault, NoFaultIsPassing, first_bytes as spec_first_bytes, bytes_after_check, BeginsWalk, job_course, left_of_walk, verdict_of, finished_status, finished_image, status_after, image_after, entry_over};
+ghost use Rattle.io_commands.specs.Jobs.{IsJob, kind_of_opcode, first_block as spec_first_block, block_number as spec_block_number, need_of_entry, direction_of_entry, io_fault, NoFaultIsPassing, first_bytes as spec_first_bytes, bytes_after_check, BeginsWalk, begins_read as spec_begins_read, lacks_read as spec_lacks_read, job_course, left_of_walk, verdict_of, lacks_blocks as spec_lacks_blocks, finished_status, finished_image, needs_blocks, status_after, image_after, JobContents, entry_over, job_over};
 
 use crate::request::{Kind, MAX_COMMAND_BLOCKS};
-use block_image::{BLOCK_SIZE, Image};
+use block_image::{BLOCK_SIZE, Blocks};
 use controller_walk::{Walk, WalkState};
 use entry_codec::{Status, SubEntry, io_opcode};
 use page_memory::Dma;
@@ -95,23 +95,41 @@ fn checked(entry: &SubEntry, blocks: u32) -> Result<Kind, Status>
 ///
 /// # Errors
 ///
-/// Where memory is refused.
-pub fn first_bytes<A: Allocator, B: Allocator>(
+/// Where memory is refused, or a block of a Read is not at hand.
+pub fn first_bytes<A: Allocator, I: Blocks>(
     alloc: A,
     entry: &SubEntry,
     kind: Kind,
-    image: &Image<B>,
+    image: &I,
 ) -> Result<Vec<u8, A>, AllocError>
-    requires passes { io_fault (block_count image.now) entry.now ≡ None }
+    requires passes { io_fault (block_count (I.bytes image.now)) entry.now ≡ None }
     requires kind { kind_of_opcode entry.now.opcode ≡ Some kind }
-    ensures bytes { IfOk result (λ bytes. bytes.items ≡ spec_first_bytes image.now entry.now (Some kind)) }
+    ensures bytes { IfOk result (λ bytes. bytes.items ≡ spec_first_bytes (I.bytes image.now) entry.now (Some kind)) }
     ensures length { IfOk result (λ bytes. length bytes.items ≡ need_of_entry entry.now) }
 {
     let number = block_number(entry);
     match kind {
-        Kind::Read => Vec::from_slice(alloc, image.blocks_from(first_block(entry), number)),
+        Kind::Read => image.copied(alloc, first_block(entry), number),
         _ => Ok(vec![in alloc; 0; BLOCK_SIZE * number as usize]?),
     }
+}
+
+/// Whether an entry passes the field checks and is a Read.
+fn begins_read(entry: &SubEntry, blocks: u32) -> bool
+    ensures { result ≡ spec_begins_read blocks entry.now }
+{
+    match checked(entry, blocks) {
+        Ok(Kind::Read) => true,
+        _ => false,
+    }
+}
+
+/// Whether an entry begins a Read of blocks that are not at hand: [`begin_job`] refuses it then, and of an image never for this.
+pub fn lacks_read<I: Blocks>(entry: &SubEntry, image: &I) -> bool
+    ensures { result ≡ spec_lacks_read (I.at_hand image.now) (block_count (I.bytes image.now)) entry.now }
+{
+    let number = block_number(entry);
+    !image.has(first_block(entry), number) && begins_read(entry, image.blocks())
 }
 
 /// Takes in a fetched entry of an I/O queue (NVM Command Set Specification 1.0, Compare, Read and Write).
@@ -122,20 +140,20 @@ pub fn first_bytes<A: Allocator, B: Allocator>(
 ///
 /// # Errors
 ///
-/// Where memory is refused, which a command that fails a check does not ask for.
-pub fn begin_job<A: Allocator, B: Allocator>(
+/// Where memory is refused, or a block of a Read is not at hand. A command that fails a check asks for neither.
+pub fn begin_job<A: Allocator, I: Blocks>(
     alloc: A,
     entry: &SubEntry,
-    image: &Image<B>,
+    image: &I,
 ) -> Result<Job<A>, AllocError>
     ensures entry { IfOk result (λ job. job.entry ≡ entry.now) }
-    ensures blocks { IfOk result (λ job. job.blocks ≡ block_count image.now) }
-    ensures verdict { IfOk result (λ job. job.verdict ≡ io_fault (block_count image.now) entry.now) }
-    ensures bytes { IfOk result (λ job. job.bytes ≡ bytes_after_check image.now entry.now (io_fault (block_count image.now) entry.now)) }
-    ensures walk { IfOk result (λ job. BeginsWalk entry.now (io_fault (block_count image.now) entry.now) job.walk) }
+    ensures blocks { IfOk result (λ job. job.blocks ≡ block_count (I.bytes image.now)) }
+    ensures verdict { IfOk result (λ job. job.verdict ≡ io_fault (block_count (I.bytes image.now)) entry.now) }
+    ensures bytes { IfOk result (λ job. job.bytes ≡ bytes_after_check (I.bytes image.now) entry.now (io_fault (block_count (I.bytes image.now)) entry.now)) }
+    ensures walk { IfOk result (λ job. BeginsWalk entry.now (io_fault (block_count (I.bytes image.now)) entry.now) job.walk) }
     ensures left { IfOk result (λ job. left_of_walk job.walk ≤ 12545) }
     ensures job { IfOk result (λ job. IsJob job) }
-    ensures refused { OnErr result (io_fault (block_count image.now) entry.now ≡ None) }
+    ensures refused { OnErr result (io_fault (block_count (I.bytes image.now)) entry.now ≡ None) }
 {
     let blocks = image.blocks();
     match checked(entry, blocks) {
@@ -220,10 +238,11 @@ impl<A: Allocator> Job<A> {
     ///
     /// Where the verdict is Successful Completion a Compare whose bytes differ from its blocks ends with Compare Failure (NVM
     /// Command Set Specification 1.0, Compare). All else ends with the verdict.
-    pub fn final_status<B: Allocator>(&self, image: &Image<B>) -> Status
+    pub fn final_status<I: Blocks>(&self, image: &I) -> Status
         requires verdict { IsSome self.now.verdict }
-        requires blocks { block_count image.now ≡ self.now.blocks }
-        ensures status { result ≡ finished_status image.now self.now }
+        requires blocks { block_count (I.bytes image.now) ≡ self.now.blocks }
+        requires at_hand { spec_lacks_blocks (I.at_hand image.now) self.now ≡ false }
+        ensures status { result ≡ finished_status (I.bytes image.now) self.now }
     {
         let verdict = self.verdict.unwrap();
         if verdict != Status::SUCCESS {
@@ -237,11 +256,37 @@ impl<A: Allocator> Job<A> {
         }
     }
 
+    /// Whether the end of the job reads or writes blocks that are not at hand: its verdict is Successful Completion, and it is a Compare or a
+    /// Write. So it is of no job over an image.
+    pub fn lacks_blocks<I: Blocks>(&self, image: &I) -> bool
+        ensures { result ≡ spec_lacks_blocks (I.at_hand image.now) self.now }
+    {
+        let number = block_number(&self.entry);
+        !image.has(first_block(&self.entry), number) && self.ends_over_blocks()
+    }
+
+    /// Whether the end of the job reads or writes blocks.
+    fn ends_over_blocks(&self) -> bool
+        ensures { result ≡ needs_blocks self.now }
+    {
+        match (self.verdict, kind_of(self.entry.opcode)) {
+            (Some(verdict), Some(Kind::Compare | Kind::Write)) => verdict.is_success(),
+            _ => false,
+        }
+    }
+
     /// The entry as it was fetched.
     pub fn entry(&self) -> &SubEntry
         ensures { result.now ≡ self.now.entry }
     {
         &self.entry
+    }
+
+    /// The command's bytes, as far as its list was walked: those of a Read's blocks, and what a Write or a Compare fetched.
+    pub fn bytes(&self) -> &[u8]
+        ensures { result.now ≡ self.now.bytes }
+    {
+        &self.bytes
     }
 
     /// How many blocks the image had as the entry was checked.
@@ -256,12 +301,15 @@ impl<A: Allocator> Job<A> {
 ///
 /// Where the verdict is Successful Completion a Write puts its bytes over its blocks, and a Compare whose bytes differ from
 /// its blocks ends with Compare Failure. All else leaves the image, and ends with the verdict.
-pub fn finish_job<A: Allocator, B: Allocator>(job: Job<A>, image: &mut Image<B>) -> Status
+pub fn finish_job<A: Allocator, I: Blocks>(job: Job<A>, image: &mut I) -> Status
     requires verdict { IsSome job.verdict }
-    requires blocks { block_count image.old ≡ job.blocks }
-    ensures status { result ≡ finished_status image.old job }
-    ensures image { image.new ≡ finished_image image.old job }
-    ensures as_long { length image.new ≡ length image.old }
+    requires blocks { block_count (I.bytes image.old) ≡ job.blocks }
+    requires at_hand { spec_lacks_blocks (I.at_hand image.old) job ≡ false }
+    ensures status { result ≡ finished_status (I.bytes image.old) job }
+    ensures image { I.bytes image.new ≡ finished_image (I.bytes image.old) job }
+    ensures as_long { length (I.bytes image.new) ≡ length (I.bytes image.old) }
+    ensures at_hand { (from n : ℕ) → I.at_hand image.new from n ≡ I.at_hand image.old from n }
+    ensures place { I.place image.new ≡ I.place image.old }
 {
     let status = job.final_status(image);
     let Job { entry, bytes, .. } = job;
@@ -332,4 +380,17 @@ pub fn worked_ends()
     ensures stopped_write { image_after (replicate 512 0x11) (entry_over 0x01 0 1) (replicate 512 0x22) (Some Status.ABORT_REQUESTED) ≡ replicate 512 0x11 }
     ensures compare_leaves { image_after (replicate 512 0x11) (entry_over 0x05 0 1) (replicate 512 0x22) (Some Status.SUCCESS) ≡ replicate 512 0x11 }
     ensures read_leaves { image_after (replicate 512 0x11) (entry_over 0x02 0 1) (replicate 512 0x22) (Some Status.SUCCESS) ≡ replicate 512 0x11 }
+{}
+
+/// Whose end reads or writes blocks, and that none is lacking where all are at hand.
+pub fn worked_needs()
+    ensures compare { needs_blocks (job_over 0x05 (Some Status.SUCCESS)) ≡ true }
+    ensures write { needs_blocks (job_over 0x01 (Some Status.SUCCESS)) ≡ true }
+    ensures read { needs_blocks (job_over 0x02 (Some Status.SUCCESS)) ≡ false }
+    ensures failed { needs_blocks (job_over 0x01 (Some Status.DATA_TRANSFER_ERROR)) ≡ false }
+    ensures walking { needs_blocks (job_over 0x01 None) ≡ false }
+    ensures at_hand { (job : JobContents) → spec_lacks_blocks (λ slba n. true) job ≡ false }
+    ensures lacks_read { spec_lacks_read (λ slba n. false) 1 (entry_over 0x02 0 1) ≡ true }
+    ensures lacks_nothing { spec_lacks_read (λ slba n. false) 1 (entry_over 0x01 0 1) ≡ false }
+    ensures out_of_range { spec_lacks_read (λ slba n. false) 1 (entry_over 0x02 1 1) ≡ false }
 {}

@@ -22,7 +22,9 @@ pub use admin::{AdminCommand, PageUse};
 pub use block_size::BlockSize;
 pub use draft::{Draft, DraftParts, FillFault};
 pub use finished::{Finished, FinishedParts};
-pub use job::{Job, begin_job, block_number, finish_job, first_block, first_bytes, kind_of};
+pub use job::{
+    Job, begin_job, block_number, finish_job, first_block, first_bytes, kind_of, lacks_read,
+};
 pub use range::BlockRange;
 pub use request::{
     Flags, Kind, MAX_COMMAND_BLOCKS, MAX_PIECES, MAX_RANGES, Piece, Pieces, Request, RequestFault,

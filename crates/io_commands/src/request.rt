@@ -314,9 +314,15 @@ impl Piece {
 }
 
 /// A list of pieces. Contracts see it as that list.
-#[derive(Debug, Drop)]
+#[derive(Debug)]
 pub struct Pieces<A: Allocator = Global> {
     pieces: Vec<Piece, A>,
+}
+
+impl<A: Allocator> Drop for Pieces<A> {
+    fn drop(self) {
+        let Self { pieces: _ } = self;
+    }
 }
 
 impl<A: Allocator> Model for Pieces<A> {
@@ -400,6 +406,15 @@ impl<A: Allocator> Pieces<A> {
         self.copied_into(Pieces::new(alloc))
     }
 
+    /// The list without its pieces, which keeps their memory.
+    fn emptied(self) -> Vec<Piece, A>
+        ensures { result.items ≡ [] }
+    {
+        let Self { mut pieces } = self;
+        pieces.clear();
+        pieces
+    }
+
     /// The same pieces once more, in the place of others, whose memory they take. More is asked for only where that is too little.
     ///
     /// # Errors
@@ -408,8 +423,7 @@ impl<A: Allocator> Pieces<A> {
     pub fn copied_into<B: Allocator>(&self, room: Pieces<B>) -> Result<Pieces<B>, AllocError>
         ensures { IfOk result (λ pieces. pieces ≡ self.now) }
     {
-        let Pieces { mut pieces } = room;
-        pieces.clear();
+        let mut pieces = room.emptied();
         pieces.extend_from_slice(&self.pieces)?;
         Ok(Pieces { pieces })
     }

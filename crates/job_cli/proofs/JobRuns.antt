@@ -39,14 +39,14 @@ fault_ends submitters so_far number bytes rest text (fault.Line at why) bad same
 fault_ends submitters so_far number bytes rest text fault.Memory bad same = tt
 
 pub jobs_are_read : (submitters : ℕ) (text : List ℕ) (read : Result (List JobLine) ScriptFault) → length text ≤ 1048576 → IsReadAs (jobs_in submitters text) read → IsReadAs (jobs_of submitters text) read
-jobs_are_read submitters text read small lined = go (nat_lt 1048576 (length text)) refl read lined
+jobs_are_read submitters text read small lined = by_length (nat_lt 1048576 (length text)) refl read lined
   where
-    go : (v : Bool) → nat_lt 1048576 (length text) ≡ v → (read : Result (List JobLine) ScriptFault) → IsReadAs (jobs_in submitters text) read → IsReadAs (jobs_of submitters text) read
-    go true e read lined = absurd (omega (arith, ltb-true 1048576 (length text) e))
-    go false e (Ok script) lined = rw e lined
-    go false e (Err fault.TooLong) lined = rw e lined
-    go false e (Err (fault.Line number why)) lined = rw e lined
-    go false e (Err fault.Memory) lined = tt
+    by_length : (v : Bool) → nat_lt 1048576 (length text) ≡ v → (read : Result (List JobLine) ScriptFault) → IsReadAs (jobs_in submitters text) read → IsReadAs (jobs_of submitters text) read
+    by_length true e read lined = absurd (omega (arith, ltb-true 1048576 (length text) e))
+    by_length false e (Ok script) lined = rw e lined
+    by_length false e (Err fault.TooLong) lined = rw e lined
+    by_length false e (Err (fault.Line number why)) lined = rw e lined
+    by_length false e (Err fault.Memory) lined = tt
 
 -- Each job of a script is of one of its submitters.
 
@@ -81,12 +81,12 @@ some_below n (Err why) below = tt
 
 words_below : (n number : ℕ) (ws : Words) → IfOk (job_of_words n number ws) (IsJobBelow n)
 words_below n number [] = tt
-words_below n number (first ∷ rest) = go (begins_comment first) (bytes_eq first (codes "job"))
+words_below n number (first ∷ rest) = by_first_word (begins_comment first) (bytes_eq first (codes "job"))
   where
-    go : (a b : Bool) → IfOk (if a then Ok None else if b then some_job (job_words n number rest) else Err UnknownVerb) (IsJobBelow n)
-    go true b = tt
-    go false true = some_below n (job_words n number rest) (job_below n number rest)
-    go false false = tt
+    by_first_word : (a b : Bool) → IfOk (if a then Ok None else if b then some_job (job_words n number rest) else Err UnknownVerb) (IsJobBelow n)
+    by_first_word true b = tt
+    by_first_word false true = some_below n (job_words n number rest) (job_below n number rest)
+    by_first_word false false = tt
 
 line_below : (n number : ℕ) (bytes : List ℕ) → IfOk (job_of_line n number bytes) (IsJobBelow n)
 line_below n number bytes = whatever_fits (IsJobBelow n) (words_of bytes) (job_of_words n number) (words_below n number)
@@ -96,11 +96,11 @@ at_line_below n number (Ok found) below = below
 at_line_below n number (Err why) below = tt
 
 numbered_below : (n number : ℕ) (bytes : List ℕ) → IfOk (numbered_job n number bytes) (IsJobBelow n)
-numbered_below n number bytes = go (nat_lt 65536 number)
+numbered_below n number bytes = by_line_number (nat_lt 65536 number)
   where
-    go : (b : Bool) → IfOk (if b then Err (fault.Line number TooManyLines) else at_line number (job_of_line n number bytes)) (IsJobBelow n)
-    go true = tt
-    go false = at_line_below n number (job_of_line n number bytes) (line_below n number bytes)
+    by_line_number : (b : Bool) → IfOk (if b then Err (fault.Line number TooManyLines) else at_line number (job_of_line n number bytes)) (IsJobBelow n)
+    by_line_number true = tt
+    by_line_number false = at_line_below n number (job_of_line n number bytes) (line_below n number bytes)
 
 with_job_below : (n : ℕ) (so_far : List JobLine) (found : Option JobLine) → All (IsBelow n) so_far → IsJobBelow n found → All (IsBelow n) (with_job so_far found)
 with_job_below n so_far None all below = all
@@ -108,12 +108,12 @@ with_job_below n so_far (Some line) all below = All-push (IsBelow n) so_far line
 
 lines_below : (n : ℕ) (so_far : List JobLine) (number : ℕ) (bytes : List (List ℕ)) → All (IsBelow n) so_far → IfOk (jobs_from n so_far number bytes) (All (IsBelow n))
 lines_below n so_far number [] all = all
-lines_below n so_far number (bytes ∷ rest) all = go (numbered_job n number bytes) (numbered_below n number bytes) (λ more below. lines_below n more (number + 1) rest below)
+lines_below n so_far number (bytes ∷ rest) all = by_line (numbered_job n number bytes) (numbered_below n number bytes) (λ more below. lines_below n more (number + 1) rest below)
   where
-    go : (r : Result (Option JobLine) ScriptFault) → IfOk r (IsJobBelow n) → ((more : List JobLine) → All (IsBelow n) more → IfOk (jobs_from n more (number + 1) rest) (All (IsBelow n)))
+    by_line : (r : Result (Option JobLine) ScriptFault) → IfOk r (IsJobBelow n) → ((more : List JobLine) → All (IsBelow n) more → IfOk (jobs_from n more (number + 1) rest) (All (IsBelow n)))
         → IfOk (then_jobs so_far (λ more. jobs_from n more (number + 1) rest) r) (All (IsBelow n))
-    go (Ok found) below onward = onward (with_job so_far found) (with_job_below n so_far found all below)
-    go (Err why) below onward = tt
+    by_line (Ok found) below onward = onward (with_job so_far found) (with_job_below n so_far found all below)
+    by_line (Err why) below onward = tt
 
 pub jobs_are_below : (n : ℕ) (text : List ℕ) (read : Result (List JobLine) ScriptFault) → IsReadAs (jobs_in n text) read → IfOk read (All (λ line. line.submitter < n))
 jobs_are_below n text (Ok found) e = rw e at (lines_below n [] 1 (lines text) (All-nil (IsBelow n)))
@@ -121,33 +121,33 @@ jobs_are_below n text (Err why) e = tt
 
 -- Runs of scripts of jobs: who does which job, what is printed, and how a run ends.
 
--- One job more
+-- One more job
 
 jobs_more : (s : ℕ) (xs : List JobLine) (x : JobLine) → jobs_for s (xs ++ x ∷ []) ≡ (if is_of s x then jobs_for s xs ++ x.job ∷ [] else jobs_for s xs)
 jobs_more s [] x = refl
-jobs_more s (y ∷ xs) x = go (is_of s y) (is_of s x) (jobs_more s xs x)
+jobs_more s (y ∷ xs) x = by_submitters (is_of s y) (is_of s x) (jobs_more s xs x)
   where
-    go : (a b : Bool) → jobs_for s (xs ++ x ∷ []) ≡ (if b then jobs_for s xs ++ x.job ∷ [] else jobs_for s xs)
+    by_submitters : (a b : Bool) → jobs_for s (xs ++ x ∷ []) ≡ (if b then jobs_for s xs ++ x.job ∷ [] else jobs_for s xs)
         → (if a then y.job ∷ jobs_for s (xs ++ x ∷ []) else jobs_for s (xs ++ x ∷ []))
         ≡ (if b then (if a then y.job ∷ jobs_for s xs else jobs_for s xs) ++ x.job ∷ [] else (if a then y.job ∷ jobs_for s xs else jobs_for s xs))
-    go true true ih = ap (λ (js : List Job). y.job ∷ js) ih
-    go true false ih = ap (λ (js : List Job). y.job ∷ js) ih
-    go false true ih = ih
-    go false false ih = ih
+    by_submitters true true ih = ap (λ (js : List Job). y.job ∷ js) ih
+    by_submitters true false ih = ap (λ (js : List Job). y.job ∷ js) ih
+    by_submitters false true ih = ih
+    by_submitters false false ih = ih
 
 -- a submitter's list gets its next job, and the others stay
 lists_more : (n : ℕ) (xs : List JobLine) (lists : List (List Job)) (x : JobLine) (next : List Job) → AreListsOf n xs lists → x.submitter < n → next ≡ jobs_for x.submitter xs ++ x.job ∷ []
     → AreListsOf n (xs ++ x ∷ []) (slice_set lists x.submitter next)
-lists_more n xs lists x next are below is = record { count = length-set lists x.submitter next ∙ are.count; each = λ s low. go s low (x.submitter == s) refl }
+lists_more n xs lists x next are below is = record { count = length-set lists x.submitter next ∙ are.count; each = λ s low. by_submitter s low (x.submitter == s) refl }
   where
-    go : (s : ℕ) → s < n → (b : Bool) → (x.submitter == s) ≡ b → slice_get (slice_set lists x.submitter next) s ≡ Some (jobs_for s (xs ++ x ∷ []))
-    go s low true same =
+    by_submitter : (s : ℕ) → s < n → (b : Bool) → (x.submitter == s) ≡ b → slice_get (slice_set lists x.submitter next) s ≡ Some (jobs_for s (xs ++ x ∷ []))
+    by_submitter s low true same =
         let at : x.submitter ≡ s = eqb-true x.submitter s same in
         let more : jobs_for s (xs ++ x ∷ []) ≡ jobs_for s xs ++ x.job ∷ [] = rw same at (jobs_more s xs x) in
         let here : slice_get (slice_set lists x.submitter next) x.submitter ≡ Some next = slice_get-set_same lists x.submitter next (omega (arith, are.count)) in
         let there : slice_get (slice_set lists x.submitter next) s ≡ Some next = subst (λ (k : ℕ). slice_get (slice_set lists x.submitter next) k ≡ Some next) at here in
         there ∙ ap Some (is ∙ (subst (λ (k : ℕ). jobs_for x.submitter xs ++ x.job ∷ [] ≡ jobs_for k xs ++ x.job ∷ []) at refl ∙ sym more))
-    go s low false other =
+    by_submitter s low false other =
         let more : jobs_for s (xs ++ x ∷ []) ≡ jobs_for s xs = rw other at (jobs_more s xs x) in
         slice_get-set_other lists x.submitter s next (λ e. eqb-false x.submitter s other (sym e)) ∙ (are.each s low ∙ ap Some (sym more))
 
@@ -199,14 +199,14 @@ there_is (x ∷ xs) (suc k) less = there_is xs k (omega arith)
 
 jobs_append : (s : ℕ) (xs ys : List JobLine) → jobs_for s (xs ++ ys) ≡ jobs_for s xs ++ jobs_for s ys
 jobs_append s [] ys = refl
-jobs_append s (x ∷ xs) ys = go (is_of s x) (jobs_append s xs ys)
+jobs_append s (x ∷ xs) ys = by_submitter (is_of s x) (jobs_append s xs ys)
   where
-    go : (b : Bool) → jobs_for s (xs ++ ys) ≡ jobs_for s xs ++ jobs_for s ys
+    by_submitter : (b : Bool) → jobs_for s (xs ++ ys) ≡ jobs_for s xs ++ jobs_for s ys
         → (if b then x.job ∷ jobs_for s (xs ++ ys) else jobs_for s (xs ++ ys)) ≡ (if b then x.job ∷ jobs_for s xs else jobs_for s xs) ++ jobs_for s ys
-    go true ih = ap (λ (js : List Job). x.job ∷ js) ih
-    go false ih = ih
+    by_submitter true ih = ap (λ (js : List Job). x.job ∷ js) ih
+    by_submitter false ih = ih
 
--- a submitter has more jobs than stand before one of them
+-- a submitter has more jobs than come before one of them
 before_is_less : (xs ys : List JobLine) (x : JobLine) → length (jobs_for x.submitter xs) < length (jobs_for x.submitter (xs ++ x ∷ ys))
 before_is_less xs ys x =
     let mine : is_of x.submitter x ≡ true = eq-eqb x.submitter x.submitter refl in
@@ -258,7 +258,7 @@ no_jobs_are_told told n text fault.TooLong first bad = fault_is_told told n text
 no_jobs_are_told told n text (fault.Line number why) first bad = fault_is_told told n text (fault.Line number why) first bad
 no_jobs_are_told told n text fault.Memory first bad = tt
 
--- Rounds of jobs, one behind the other.
+-- Rounds of jobs, one after the other.
 
 -- Lists of submitters
 
@@ -291,11 +291,11 @@ lengths_behind (x ∷ a) (z ∷ c) (y ∷ b) (w ∷ d) first second =
 
 empty_behind : (xs ys : List Job) → not (length ys == 0) ≡ false → xs ++ ys ≡ xs
 empty_behind xs [] none = append-nil xs
-empty_behind xs (y ∷ ys) none = absurd (go (length (y ∷ ys) == 0) refl none)
+empty_behind xs (y ∷ ys) none = absurd (by_emptiness (length (y ∷ ys) == 0) refl none)
   where
-    go : (b : Bool) → (length (y ∷ ys) == 0) ≡ b → not b ≡ false → ⊥
-    go true is isnt = let zero_long : length (y ∷ ys) ≡ 0 = eqb-true (length (y ∷ ys)) 0 is in absurd (omega (arith, zero_long))
-    go false is isnt = absurd (true≢false isnt)
+    by_emptiness : (b : Bool) → (length (y ∷ ys) == 0) ≡ b → not b ≡ false → ⊥
+    by_emptiness true is isnt = let zero_long : length (y ∷ ys) ≡ 0 = eqb-true (length (y ∷ ys)) 0 is in absurd (omega (arith, zero_long))
+    by_emptiness false is isnt = absurd (true≢false isnt)
 
 -- where no jobs are left, those that were done are all
 pub none_left : {X : Type 0} (items : X → List Job) (done : List (List Job)) (left : List X) → length left ≤ length done → list_any (λ queue. not (length (items queue) == 0)) left ≡ false
@@ -306,7 +306,7 @@ none_left items (x ∷ done) (q ∷ left) few none =
     let both = or_parts (not (length (items q) == 0)) (list_any (λ queue. not (length (items queue) == 0)) left) none in
     rw (empty_behind x (items q) both.0, none_left items done left (omega arith) both.1) refl
 
--- the jobs of a round more are done
+-- the jobs of one more round are done
 pub more_done : {X Y : Type 0} (items_of : Y → List Job) (items : X → List Job) (jobs left rest : List X) (round : List Y) (done : List (List Job)) → behind done (map items left) ≡ map items jobs
     → behind (map items_of round) (map items rest) ≡ map items left → behind (behind done (map items_of round)) (map items rest) ≡ map items jobs
 more_done items_of items jobs left rest round done all taken = behind_assoc done (map items_of round) (map items rest) ∙ (ap (behind done) taken ∙ all)
@@ -319,7 +319,7 @@ all_done items_of items jobs left rest round done all taken few none =
     let long = behind_long done (map items_of round) in
     sym (none_left items (behind done (map items_of round)) rest (omega (arith, long, few, length-map round items_of)) none) ∙ more_done items_of items jobs left rest round done all taken
 
--- one submitter's jobs more were taken
+-- one more submitter's jobs were taken
 pub one_taken : {X : Type 0} (items : X → List Job) (round : List (List Job)) (left : List X) (place : ℕ) (queue rest : X) (jobs : List Job) → length round ≡ place → place < length left → queue ≡ get_or left place queue
     → jobs ++ items rest ≡ items queue → behind (round ++ jobs ∷ []) (map items (slice_set left place rest)) ≡ behind round (map items left)
 one_taken items [] [] place queue rest jobs at within is all = absurd (omega (arith, at, within))
@@ -369,7 +369,7 @@ agree_behind : (receipts more : List (List Receipt)) (ends later : List (List Jo
 agree_behind receipts more ends later first second =
     map_behind statuses_of (map-append (λ (r : Receipt). r.status)) receipts more ∙ rw (first, second) refl ∙ sym (map_behind ends_of ends_append ends later)
 
--- one round more
+-- one more round
 pub one_gone_on : (before mid : State) (done : List (List Job)) (ends : List (List JobEnd)) (round : Round) → HasGoneOn before done ends mid → EndsRound mid round.log round.report round.world
     → AllWent mid round.lists round.report.receipts round.ends → AllAgree round.report.receipts round.ends → AreOfJobs round.log.entries → HasGoneOn before (behind done round.lists) (behind ends round.ends) round.world.state
 one_gone_on before mid done ends round gone ended went agree jobs = record {

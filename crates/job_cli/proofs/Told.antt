@@ -24,7 +24,7 @@ one_told ends h rest what is = rw is refl
 pub one_passed : (ends : List (List JobEnd)) (h : Heading) (rest : List Heading) (what : JobEnd) → end_at ends h ≡ Some what → without_end ends (h ∷ rest) ≡ without_end ends rest
 one_passed ends h rest what is = rw is refl
 
--- so much is told of what is told in all
+-- this much is told of what is told in all
 abbrev pub IsTold : List (List JobEnd) → List Heading → List Heading → Option (List ℕ) → Option (List ℕ) → Type 0
 IsTold ends all left a b = (said : List ℕ) × Appends a b said × (headed_so_far ends all ≡ said ++ headed_so_far ends left)
 
@@ -56,24 +56,24 @@ end_stays (x ∷ ends) (y ∷ later) (suc s) k what is = end_stays ends later s 
 
 so_far_grows : (ends later : List (List JobEnd)) (all : List Heading) → headed_so_far (behind ends later) all ≡ headed_so_far ends all ++ headed_so_far (behind ends later) (without_end ends all)
 so_far_grows ends later [] = refl
-so_far_grows ends later (h ∷ rest) = go (end_at ends h) refl (so_far_grows ends later rest)
+so_far_grows ends later (h ∷ rest) = by_end (end_at ends h) refl (so_far_grows ends later rest)
   where
-    go : (e : Option JobEnd) → end_at ends h ≡ e → headed_so_far (behind ends later) rest ≡ headed_so_far ends rest ++ headed_so_far (behind ends later) (without_end ends rest)
+    by_end : (e : Option JobEnd) → end_at ends h ≡ e → headed_so_far (behind ends later) rest ≡ headed_so_far ends rest ++ headed_so_far (behind ends later) (without_end ends rest)
         → headed_so_far (behind ends later) (h ∷ rest) ≡ headed_so_far ends (h ∷ rest) ++ headed_so_far (behind ends later) (without_end ends (h ∷ rest))
-    go None is onward = rw is refl
-    go (Some what) is onward =
+    by_end None is onward = rw is refl
+    by_end (Some what) is onward =
         rw (is, one_told (behind ends later) h rest what (end_stays ends later h.submitter h.place what is))
         (ap (λ (t : List ℕ). headed_text h (Some what) ++ t) onward
         ∙ sym (append_assoc (headed_text h (Some what)) (headed_so_far ends rest) (headed_so_far (behind ends later) (without_end ends rest))))
 
 left_shrinks : (ends later : List (List JobEnd)) (all : List Heading) → without_end (behind ends later) (without_end ends all) ≡ without_end (behind ends later) all
 left_shrinks ends later [] = refl
-left_shrinks ends later (h ∷ rest) = go (end_at ends h) refl (left_shrinks ends later rest)
+left_shrinks ends later (h ∷ rest) = by_end (end_at ends h) refl (left_shrinks ends later rest)
   where
-    go : (e : Option JobEnd) → end_at ends h ≡ e → without_end (behind ends later) (without_end ends rest) ≡ without_end (behind ends later) rest
+    by_end : (e : Option JobEnd) → end_at ends h ≡ e → without_end (behind ends later) (without_end ends rest) ≡ without_end (behind ends later) rest
         → without_end (behind ends later) (without_end ends (h ∷ rest)) ≡ without_end (behind ends later) (h ∷ rest)
-    go None is onward = rw is refl
-    go (Some what) is onward = rw is (onward ∙ sym (one_passed (behind ends later) h rest what (end_stays ends later h.submitter h.place what is)))
+    by_end None is onward = rw is refl
+    by_end (Some what) is onward = rw is (onward ∙ sym (one_passed (behind ends later) h rest what (end_stays ends later h.submitter h.place what is)))
 
 -- before any has ended
 nothing_told : (all : List Heading) → headed_so_far [] all ≡ []
@@ -93,20 +93,20 @@ begun_left ends all left none is = rw none (is ∙ sym (all_left all))
 pub begun_told : (ends : List (List JobEnd)) (all : List Heading) (a : Option (List ℕ)) → ends ≡ [] → Appends a a (headed_so_far ends all)
 begun_told ends all a none = rw (none, nothing_told all) (appends_none a)
 
--- after a round more
+-- after one more round
 pub round_left : (ends later after : List (List JobEnd)) (all left next : List Heading) → after ≡ behind ends later → left ≡ without_end ends all → next ≡ without_end after left → next ≡ without_end after all
 round_left ends later after all left next grown was is =
     let shrinks : without_end after (without_end ends all) ≡ without_end after all = rw grown (left_shrinks ends later all) in
     is ∙ (ap (without_end after) was ∙ shrinks)
 
--- a round more is told
+-- one more round is told
 pub round_told : (ends later after : List (List JobEnd)) (all left : List Heading) (a b c : Option (List ℕ)) → after ≡ behind ends later → left ≡ without_end ends all
     → Appends a b (headed_so_far ends all) → Appends b c (headed_so_far after left) → Appends a c (headed_so_far after all)
 round_told ends later after all left a b c grown is written more =
     let grows : headed_so_far after all ≡ headed_so_far ends all ++ headed_so_far after left = rw (grown, is) (so_far_grows ends later all) in
     subst (Appends a c) (sym grows) (appends_more a b c (headed_so_far ends all) (headed_so_far after left) written more)
 
--- and a front of it, where the writing was cut off
+-- and a prefix of it, where the writing was cut off
 pub round_cut : (ends later after : List (List JobEnd)) (all left : List Heading) (a b c : Option (List ℕ)) → after ≡ behind ends later → left ≡ without_end ends all
     → Appends a b (headed_so_far ends all) → Gains b c (λ front. IsFront front (headed_so_far after left)) → Gains a c (λ front. IsFront front (headed_so_far after all))
 round_cut ends later after all left a b c grown is written (front, (rest, split), more) =
@@ -116,7 +116,7 @@ round_cut ends later after all left a b c grown is written (front, (rest, split)
 
 -- How jobs are cut short
 
--- all of what was told stands there
+-- all of what was told is there
 cut_after : (before after : State) (all : List (List Job)) (ends : List (List JobEnd)) (headings : List Heading) (a b : Option (List ℕ)) (why : RunFault) → HasBegun before all ends after → IsWanting why
     → Appends a b (headed_so_far ends headings) → IsCutShort before all headings a b why
 cut_after before after all ends headings a b run.NoThread gone wants written = record { ends = ends; world = after; begun = gone; written = (headed_so_far ends headings, refl, written) }
@@ -135,7 +135,7 @@ pub wanting_failed : {T : Type 0} (r : Result T RunFault) (why : RunFault) (befo
 wanting_failed (Ok done) why before after all ends headings a b same gone wants written = tt
 wanting_failed (Err x) why before after all ends headings a b same gone wants written = rw same (cut_after before after all ends headings a b why gone wants written)
 
--- a front of it
+-- a prefix of it
 cut_within : (before after : State) (all : List (List Job)) (ends : List (List JobEnd)) (headings : List Heading) (a b : Option (List ℕ)) (why : RunFault) → HasBegun before all ends after
     → (why ≡ run.Memory) ⊎ (why ≡ run.OutputFailed) → Gains a b (λ front. IsFront front (headed_so_far ends headings)) → IsCutShort before all headings a b why
 cut_within before after all ends headings a b why gone (inl is) written = rw is (record { ends = ends; world = after; begun = gone; written = written })
@@ -150,23 +150,23 @@ within_failed (Err x) why before after all ends headings a b same gone says writ
 
 headed_so_far_is : (ends : List (List JobEnd)) (before lines : List JobLine) → headed_so_far ends (headings_from before lines) ≡ lines_so_far ends before lines
 headed_so_far_is ends before [] = refl
-headed_so_far_is ends before (line ∷ rest) = go (end_of ends before line) refl (headed_so_far_is ends (before ++ line ∷ []) rest)
+headed_so_far_is ends before (line ∷ rest) = by_end (end_of ends before line) refl (headed_so_far_is ends (before ++ line ∷ []) rest)
   where
-    go : (e : Option JobEnd) → end_of ends before line ≡ e → headed_so_far ends (headings_from (before ++ line ∷ []) rest) ≡ lines_so_far ends (before ++ line ∷ []) rest
+    by_end : (e : Option JobEnd) → end_of ends before line ≡ e → headed_so_far ends (headings_from (before ++ line ∷ []) rest) ≡ lines_so_far ends (before ++ line ∷ []) rest
         → headed_so_far ends (headings_from before (line ∷ rest)) ≡ lines_so_far ends before (line ∷ rest)
-    go None is onward = rw is refl
-    go (Some what) is onward = rw is (ap (λ (t : List ℕ). headed_text (heading before line) (Some what) ++ t) onward)
+    by_end None is onward = rw is refl
+    by_end (Some what) is onward = rw is (ap (λ (t : List ℕ). headed_text (heading before line) (Some what) ++ t) onward)
 
 -- all of it, where all have ended
 all_told : (ends : List (List JobEnd)) (before lines : List JobLine) → all_ended ends before lines ≡ true → lines_so_far ends before lines ≡ job_lines ends before lines
 all_told ends before [] ended = refl
-all_told ends before (line ∷ rest) ended = go (end_of ends before line) refl ended (all_told ends (before ++ line ∷ []) rest)
+all_told ends before (line ∷ rest) ended = by_end (end_of ends before line) refl ended (all_told ends (before ++ line ∷ []) rest)
   where
-    go : (e : Option JobEnd) → end_of ends before line ≡ e → (is_some (end_of ends before line) && all_ended ends (before ++ line ∷ []) rest) ≡ true
+    by_end : (e : Option JobEnd) → end_of ends before line ≡ e → (is_some (end_of ends before line) && all_ended ends (before ++ line ∷ []) rest) ≡ true
         → (all_ended ends (before ++ line ∷ []) rest ≡ true → lines_so_far ends (before ++ line ∷ []) rest ≡ job_lines ends (before ++ line ∷ []) rest)
         → lines_so_far ends before (line ∷ rest) ≡ job_lines ends before (line ∷ rest)
-    go None is ended onward = absurd (true≢false (sym (rw is at ended)))
-    go (Some what) is ended onward = rw is (ap (λ (t : List ℕ). headed_text (heading before line) (Some what) ++ t) (onward (rw is at ended)))
+    by_end None is ended onward = absurd (true≢false (sym (rw is at ended)))
+    by_end (Some what) is ended onward = rw is (ap (λ (t : List ℕ). headed_text (heading before line) (Some what) ++ t) (onward (rw is at ended)))
 
 -- What a run writes
 
@@ -177,7 +177,7 @@ lists_of_lines n lines lists are = subst (λ (k : ℕ). AreListsOf k lines lists
 pub all_begun : (before after : State) (all : List (List Job)) (ends : List (List JobEnd)) → HasGoneOn before all ends after → HasBegun before all ends after
 all_begun before after all ends gone = record { done = all; left = []; all_are = behind_none all; gone_on = gone }
 
--- jobs that all ended, and what stands behind their lines
+-- jobs that all ended, and what follows their lines
 jobs_text_is : {X : Type 0} (items : X → List Job) (n : ℕ) (config : Config) (image : List ℕ) (lines given : List JobLine) (headings : List Heading) (lists : List X) (ends : List (List JobEnd))
     (world : State) (closing : List ℕ) → given ≡ lines → headings ≡ headings_from [] given → AreListsOf n given (map items lists)
     → map length ends ≡ map (λ list. length (items list)) lists → All (λ line. line.submitter < n) lines → refusal_of_config config ≡ None → IsImage image → HasGoneOn (opening_of config image) (map items lists) ends world
@@ -230,27 +230,27 @@ no_run_ends told n config image a b lines given headings all (run.Line number wh
 no_run_ends told n config image a b lines given headings all run.TooLong has e is are (inl (why_not, keeps)) = absurd why_not
 no_run_ends told n config image a b lines given headings all run.Unreadable has e is are (inl (why_not, keeps)) = absurd why_not
 no_run_ends told n config image a b lines given headings all run.OutputFailed has e is are (inl (why_not, keeps)) = absurd why_not
-no_run_ends told n config image a b lines given headings all why has e is are (inr (fits, cut)) = go why cut.written
+no_run_ends told n config image a b lines given headings all why has e is are (inr (fits, cut)) = by_fault why cut.written
   where
-    go : (w : RunFault) → Gains a b (λ text. IsWrittenOf w text (headed_so_far cut.ends headings)) → EndsJobsWith told n config image a b w
-    go run.NoThread (text, whole, written) = (lines, has, fits, (text, so_far_of config image n lines given headings all cut.ends cut.world text e is are cut.begun whole, written))
-    go (run.Close w) (text, whole, written) = (lines, has, fits, (text, so_far_of config image n lines given headings all cut.ends cut.world text e is are cut.begun whole, written))
-    go run.Memory (text, front, written) =
+    by_fault : (w : RunFault) → Gains a b (λ text. IsWrittenOf w text (headed_so_far cut.ends headings)) → EndsJobsWith told n config image a b w
+    by_fault run.NoThread (text, whole, written) = (lines, has, fits, (text, so_far_of config image n lines given headings all cut.ends cut.world text e is are cut.begun whole, written))
+    by_fault (run.Close w) (text, whole, written) = (lines, has, fits, (text, so_far_of config image n lines given headings all cut.ends cut.world text e is are cut.begun whole, written))
+    by_fault run.Memory (text, front, written) =
         inr (lines, has, (text, (headed_so_far cut.ends headings, inr (so_far_of config image n lines given headings all cut.ends cut.world (headed_so_far cut.ends headings) e is are cut.begun refl), front), written))
-    go run.OutputFailed (text, front, written) =
+    by_fault run.OutputFailed (text, front, written) =
         (lines, has, (text, (headed_so_far cut.ends headings, inr (so_far_of config image n lines given headings all cut.ends cut.world (headed_so_far cut.ends headings) e is are cut.begun refl), front), written))
-    go run.BadConfig (text, none, written) = absurd none
-    go (run.NoPages need free) (text, none, written) = absurd none
-    go (run.Line number w) (text, none, written) = absurd none
-    go run.TooLong (text, none, written) = absurd none
-    go run.Unreadable (text, none, written) = absurd none
+    by_fault run.BadConfig (text, none, written) = absurd none
+    by_fault (run.NoPages need free) (text, none, written) = absurd none
+    by_fault (run.Line number w) (text, none, written) = absurd none
+    by_fault run.TooLong (text, none, written) = absurd none
+    by_fault run.Unreadable (text, none, written) = absurd none
 
 pub no_run_failed : {T : Type 0} (r : Result T RunFault) (told : Option (List ℕ)) (n : ℕ) (config : Config) (image : List ℕ) (a b : Option (List ℕ)) (lines given : List JobLine) (headings : List Heading) (all : List (List Job)) (why : RunFault)
     → IsErrAnd r (λ x. x ≡ why) → HasJobs told n lines → given ≡ lines → headings ≡ headings_from [] given → AreListsOf n given all → IsNoRun config image all headings a b why → IfErr r (EndsJobsWith told n config image a b)
 no_run_failed (Ok done) told n config image a b lines given headings all why same has e is are none = tt
 no_run_failed (Err x) told n config image a b lines given headings all why same has e is are none = rw same (no_run_ends told n config image a b lines given headings all why has e is are none)
 
--- all jobs were told, and not all that stands behind them
+-- all jobs were told, and not all that follows them
 pub closing_is_cut : {X : Type 0} (items : X → List Job) (told : Option (List ℕ)) (n : ℕ) (config : Config) (image : List ℕ) (lines given : List JobLine) (headings : List Heading)
     (lists : List X) (ends : List (List JobEnd)) (world : State) (a b c : Option (List ℕ)) (why : RunFault) → HasJobs told n lines → given ≡ lines → headings ≡ headings_from [] given
     → AreListsOf n given (map items lists) → map length ends ≡ map (λ list. length (items list)) lists → All (λ line. line.submitter < n) lines → refusal_of_config config ≡ None → IsImage image

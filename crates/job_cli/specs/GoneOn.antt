@@ -20,7 +20,7 @@ GoOn before [] after = after ≡ before
 GoOn before (round ∷ rounds) after =
     EndsRound before round.log round.report round.world × AllWent before round.lists round.report.receipts round.ends × GoOn round.world.state rounds after
 
--- the jobs that each submitter did in all rounds, one round behind the other, and how they ended
+-- the jobs that each submitter did in all rounds, one round after the other, and how they ended
 abbrev pub lists_of : List Round → List (List Job)
 lists_of [] = []
 lists_of (round ∷ rounds) = behind round.lists (lists_of rounds)
@@ -29,12 +29,12 @@ abbrev pub ends_in : List Round → List (List JobEnd)
 ends_in [] = []
 ends_in (round ∷ rounds) = behind round.ends (ends_in rounds)
 
--- the logs of all rounds, one behind the other
+-- the logs of all rounds, one after the other
 abbrev pub logs_of : List Round → List Entry
 logs_of [] = []
 logs_of (round ∷ rounds) = round.log.entries ++ logs_of rounds
 
--- the receipts of each submitter in all rounds, one round behind the other
+-- the receipts of each submitter in all rounds, one round after the other
 abbrev pub receipts_of : List Round → List (List Receipt)
 receipts_of [] = []
 receipts_of (round ∷ rounds) = behind round.report.receipts (receipts_of rounds)
@@ -49,7 +49,7 @@ pub record HasGoneOn (before : State) (lists : List (List Job)) (ends : List (Li
   pub agree : AllAgree (receipts_of rounds) ends
   pub jobs : AreOfJobs (logs_of rounds)
 
--- so the first of the submitters' jobs, where these are left
+-- the same of the first of the submitters' jobs, where these are left
 pub record HasBegun (before : State) (all : List (List Job)) (ends : List (List JobEnd)) (after : State) : Type 0 where
   pub done : List (List Job)
   pub left : List (List Job)
@@ -63,6 +63,6 @@ pub record HasBegun (before : State) (all : List (List Job)) (ends : List (List 
 abbrev pub entries_for : Job → ℕ
 entries_for job = 8 + 3 * min (length job.request.pieces) 1024
 
--- so many jobs are one at most, or write no more entries than that
+-- this many jobs are one at most, or write no more entries than that
 abbrev pub Fit : ℕ → List Job → Type 0
 Fit share jobs = (length jobs ≤ 1) ⊎ (sum_by entries_for jobs ≤ share)

@@ -9,11 +9,11 @@ use Rattle.script_cli.specs.{Inputs.{Gains, IsFront}, declared.fault.RunFault.Ru
 use Rattle.step_core.specs.Opening.{opening_of}
 use Rattle.script_cli.specs.declared.fault.RunFault.TheVariants as run
 
--- the heading of a job that has this place among the jobs of its submitter
+-- the heading of a job that has this position among the jobs of its submitter
 abbrev pub heading_at : ℕ → JobLine → Heading
 heading_at place line = record { number = line.number; submitter = line.submitter; kind = line.job.request.kind; place = place }
 
--- the heading of a job, behind the lines before it
+-- the heading of a job, after the lines before it
 abbrev pub heading : List JobLine → JobLine → Heading
 heading before line = heading_at (length (jobs_for line.submitter before)) line
 
@@ -42,14 +42,15 @@ abbrev pub headed_so_far : List (List JobEnd) → List Heading → List ℕ
 headed_so_far ends [] = []
 headed_so_far ends (h ∷ rest) = headed_and_more h (end_at ends h) (headed_so_far ends rest)
 
--- the headings from that one on
+-- the headings starting at that one
 abbrev pub without_end : List (List JobEnd) → List Heading → List Heading
 without_end ends [] = []
 without_end ends (h ∷ rest) = if is_some (end_at ends h) then without_end ends rest else h ∷ rest
 
 -- How a run ends
 
--- how much of a text is written where jobs over a world that was opened did not all end, or were not all told: all of it where a thread or the close of a book is wanting
+-- how much of a text is written where jobs over a world that was opened did not all end, or were not all told: all of it where a thread or the close of a book is
+-- missing
 abbrev pub IsWrittenOf : RunFault → List ℕ → List ℕ → Type 0
 IsWrittenOf run.NoThread text whole = text ≡ whole
 IsWrittenOf (run.Close why) text whole = text ≡ whole
@@ -57,7 +58,7 @@ IsWrittenOf run.Memory text whole = IsFront text whole
 IsWrittenOf run.OutputFailed text whole = IsFront text whole
 IsWrittenOf other text whole = ⊥
 
--- These jobs, with these headings, went on from this state to some ends, and so much is written of the lines of those whose turn came.
+-- These jobs, with these headings, went on from this state to some ends, and this much is written of the lines of those whose turn came.
 pub record IsCutShort (before : State) (all : List (List Job)) (headings : List Heading) (old new : Option (List ℕ)) (why : RunFault) : Type 0 where
   pub ends : List (List JobEnd)
   pub world : State

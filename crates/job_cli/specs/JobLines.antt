@@ -37,7 +37,7 @@ is_well_end (end.Refused why) = false
 abbrev pub unwell_among : List JobEnd → ℕ
 unwell_among ends = count_by (λ what. not (is_well_end what)) ends
 
--- so many and those of some submitters, as far as 64 bits count
+-- this many and those of some submitters, as far as 64 bits count
 abbrev pub unwell_from : ℕ → List (List JobEnd) → ℕ
 unwell_from many [] = many
 unwell_from many (ends ∷ rest) = unwell_from (min (many + unwell_among ends) 18446744073709551615) rest

@@ -25,7 +25,7 @@ abbrev pub jobs_for : ℕ → List JobLine → List Job
 jobs_for submitter [] = []
 jobs_for submitter (line ∷ rest) = if is_of submitter line then line.job ∷ jobs_for submitter rest else jobs_for submitter rest
 
--- each of so many submitters has its jobs
+-- each of this many submitters has its jobs
 pub record AreListsOf (submitters : ℕ) (lines : List JobLine) (lists : List (List Job)) : Type 0 where
   pub count : length lists ≡ submitters
   pub each : (s : ℕ) → s < submitters → slice_get lists s ≡ Some (jobs_for s lines)
@@ -41,7 +41,7 @@ abbrev pub ended_text : JobLine → Option JobEnd → List ℕ
 ended_text line None = []
 ended_text line (Some what) = job_text line.number line.submitter line.job.request.kind what
 
--- the lines of jobs in their order, behind those before them
+-- the lines of jobs in their order, after those before them
 abbrev pub job_lines : List (List JobEnd) → List JobLine → List JobLine → List ℕ
 job_lines ends before [] = []
 job_lines ends before (line ∷ rest) = ended_text line (end_of ends before line) ++ job_lines ends (before ++ line ∷ []) rest
@@ -51,7 +51,7 @@ abbrev pub line_and_more : JobLine → Option JobEnd → List ℕ → List ℕ
 line_and_more line None more = []
 line_and_more line (Some what) more = ended_text line (Some what) ++ more
 
--- the lines of jobs in their order, behind those before them, up to the first that has not ended
+-- the lines of jobs in their order, after those before them, up to the first that has not ended
 abbrev pub lines_so_far : List (List JobEnd) → List JobLine → List JobLine → List ℕ
 lines_so_far ends before [] = []
 lines_so_far ends before (line ∷ rest) = line_and_more line (end_of ends before line) (lines_so_far ends (before ++ line ∷ []) rest)
@@ -61,14 +61,14 @@ abbrev pub all_ended : List (List JobEnd) → List JobLine → List JobLine → 
 all_ended ends before [] = true
 all_ended ends before (line ∷ rest) = is_some (end_of ends before line) && all_ended ends (before ++ line ∷ []) rest
 
--- what stands behind the lines of the jobs
+-- what follows the lines of the jobs
 abbrev pub closing_text : List Owner → Counts → List ℕ
 closing_text owners counts = owners_text owners ++ counts_line counts
 
 -- Rounds of threads, the first over this opening, each other over the world to which the one before led, left a world with these owners and counts, and these jobs ended so. Each was
 -- submitted with its own request and bytes, and its end has what was gathered of a command that a book of its round collected under its receipt's queue and identifier; or a book of its
--- round refused it. Each command of theirs ended as its receipt in the report of its round's book says, and the reports have no further receipt. The logs of all rounds have the steps of jobs alone, so that they are, one behind the other, one run of which the
--- machine's laws of trusted runs speak.
+-- round refused it. Each command of theirs ended as its receipt in the report of its round's book says, and the reports have no further receipt. The logs of all
+-- rounds have the steps of jobs alone, so that they are, one after the other, one run of which the machine's laws of trusted runs speak.
 pub record IsLeftFrom (opening : State) (image : List ℕ) (lists : List (List Job)) (ends : List (List JobEnd)) (owners : List Owner) (counts : Counts) : Type 0 where
   pub world : State
   pub gone_on : HasGoneOn opening lists ends world
@@ -76,7 +76,7 @@ pub record IsLeftFrom (opening : State) (image : List ℕ) (lists : List (List J
   pub owned : AreOwners world owners
   pub counted : counts ≡ counts_of world.host
 
--- what stands behind the lines of the jobs over a world that is left in this state
+-- what follows the lines of the jobs over a world that is left in this state
 abbrev pub IsClosing : State → List ℕ → Type 0
 IsClosing left text = (owners : List Owner) × AreOwners left owners × (text ≡ closing_text owners (counts_of left.host))
 
@@ -92,11 +92,11 @@ pub record IsJobsText (config : Config) (image : List ℕ) (lines : List JobLine
   pub ended : all_ended ends [] lines ≡ true
   pub said : text ≡ job_lines ends [] lines ++ closing_text owners counts
 
--- such a text, in whose ends so many jobs were refused or have a status that is not 0:00
+-- such a text, in whose ends this many jobs were refused or have a status that is not 0:00
 abbrev pub IsCountedText : ℕ → Config → List ℕ → List JobLine → List ℕ → Type 0
 IsCountedText unwell config image lines text = (said : IsJobsText config image lines text) × (unwell ≡ unwell_in said.ends)
 
--- The text of a run of jobs whose later rounds are wanting: the line of each job whose turn came, up to the first that has not ended.
+-- The text of a run of jobs whose later rounds are missing: the line of each job whose turn came, up to the first that has not ended.
 pub record IsJobsTextSoFar (config : Config) (image : List ℕ) (lines : List JobLine) (text : List ℕ) : Type 0 where
   pub all : List (List Job)
   pub ends : List (List JobEnd)
@@ -105,14 +105,14 @@ pub record IsJobsTextSoFar (config : Config) (image : List ℕ) (lines : List Jo
   pub begun : HasBegun (opening_of config image) all ends world
   pub said : text ≡ lines_so_far ends [] lines
 
--- what was written of a run that was cut off: the front of such a text
+-- what was written of a run that was cut off: a prefix of such a text
 abbrev pub IsCutJobsText : Config → List ℕ → List JobLine → List ℕ → Type 0
 IsCutJobsText config image lines text =
     (whole : List ℕ) × (IsJobsText config image lines whole ⊎ IsJobsTextSoFar config image lines whole) × IsFront text whole
 
 -- How a run ends
 
--- a reader has a script for so many submitters without faults, of which these are the jobs
+-- a reader has a script for this many submitters without faults, of which these are the jobs
 abbrev pub HasJobs : Option (List ℕ) → ℕ → List JobLine → Type 0
 HasJobs told submitters lines = (text : List ℕ) × IsTold told text × (jobs_of submitters text ≡ Ok lines)
 
@@ -142,7 +142,7 @@ IsWanting (run.Close why) = Unit {0}
 IsWanting run.Memory = Unit {0}
 IsWanting other = ⊥
 
--- a reader has a script without faults, and a text of which something holds is written
+-- a reader has a script without faults, and a text that meets a condition is written
 abbrev pub WritesJobs : Option (List ℕ) → ℕ → Config → List ℕ → Option (List ℕ) → Option (List ℕ) → (Config → List ℕ → List JobLine → List ℕ → Type 0) → Type 0
 WritesJobs told submitters config image before after Holds =
     (lines : List JobLine) × HasJobs told submitters lines × Gains before after (Holds config image lines)

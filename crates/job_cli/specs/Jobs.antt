@@ -11,7 +11,7 @@ use Rattle.script_cli.specs.declared.fault.ScriptFault.TheVariants as fault
 abbrev pub head : ℕ → ℕ → Kind → ℕ → ℕ → JobHead
 head submitter q kind slba blocks = record { submitter = submitter; q = q; kind = kind; slba = slba; blocks = blocks }
 
--- what stands before the bytes and the pieces of a job
+-- what is before the bytes and the pieces of a job
 unfoldable pub head_words : ℕ → Words → Result (JobHead × Words) LineFault
 head_words submitters ws = do
   submitter ← number_word submitters ws
@@ -32,7 +32,7 @@ job_of number head request bytes = record { number = number; submitter = head.su
 abbrev pub job : ℕ → JobHead → List Piece → List ℕ → JobLine
 job number head pieces bytes = job_of number head (request_of head.kind head.slba head.blocks pieces) bytes
 
--- what follows `job` in the line of this number, where there are so many submitters
+-- what follows `job` in the line of this number, where there are this many submitters
 unfoldable pub job_words : ℕ → ℕ → Words → Result JobLine LineFault
 job_words submitters number ws = do
   head ← head_words submitters ws

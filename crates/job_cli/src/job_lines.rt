@@ -59,11 +59,11 @@ fn put_job_end(out: &mut String, end: &JobEnd) -> Result<(), AllocError>
     }
 }
 
-/// Puts the line of a job behind what stands in a text: the number of its line, its submitter, its kind and how it ended.
+/// Appends the line of a job to a text: the number of its line, its submitter, its kind and how it ended.
 ///
 /// # Errors
 ///
-/// Where memory is refused. A part of the line may then stand in the text.
+/// Where memory is refused. A part of the line may then be in the text.
 pub fn append_job_line(
     out: &mut String,
     number: u32,

@@ -161,7 +161,7 @@ fn run_world<R: Clock + Eprint + Threads + Wait + Sync, W: Write>(
 ///
 /// A fault of the script, and then one of the opening; nothing is written then. [`RunFault::NoThread`] where a thread cannot be made and [`RunFault::Close`] where the
 /// book of a round is not closed: the lines of the rounds before are written then. [`RunFault::Memory`] where memory is refused, to a submitter too;
-/// [`RunFault::OutputFailed`] where a write or the flush fails. What was written by then is the front of a run's text.
+/// [`RunFault::OutputFailed`] where a write or the flush fails. What was written by then is a prefix of a run's text.
 pub fn run_jobs<R: Clock + Eprint + Threads + Wait + Sync, I: Read, W: Write>(
     rt: &R,
     alloc: Global,

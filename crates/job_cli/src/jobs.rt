@@ -25,7 +25,7 @@ pub struct JobLine {
     pub job: Job,
 }
 
-/// What stands before the bytes and the pieces of a job.
+/// What is before the bytes and the pieces of a job.
 #[derive(Clone, Copy, Debug)]
 struct JobHead {
     submitter: u16,
@@ -66,7 +66,7 @@ impl JobScript {
     }
 }
 
-/// Takes what stands before the bytes and the pieces of a job.
+/// Takes what is before the bytes and the pieces of a job.
 #[tactic(auto, unfolding(crate::specs::Jobs::head_words))]
 fn job_head(submitters: u16, words: &mut Words<'_>) -> Result<JobHead, LineFault>
     ensures { MatchResult result (λ head. head_words submitters words.old ≡ Ok (head, words.new)) (λ fault. head_words submitters words.old ≡ Err fault) }
@@ -175,7 +175,7 @@ fn numbered_job(
     }
 }
 
-/// Puts a job behind those so far, if there is one.
+/// Adds a job after those so far, if there is one.
 fn push_job(jobs: &mut Vec<JobLine>, job: Option<JobLine>) -> Result<(), AllocError>
     ensures { OnOk result (jobs.new.items ≡ with_job jobs.old.items job) }
 {
@@ -209,12 +209,12 @@ fn read_job_lines(alloc: Global, text: &[u8], submitters: u16) -> Result<JobScri
     Ok(JobScript { jobs })
 }
 
-/// Reads a script of jobs for so many submitters: `job S Q read SLBA BLOCKS PIECE..`, and `job S Q KIND SLBA BLOCKS HEX PIECE..` where
-/// KIND is `write` or `compare`, with S below their number. Behind the pieces may stand what [`read_request`] reads there.
+/// Reads a script of jobs for this many submitters: `job S Q read SLBA BLOCKS PIECE..`, and `job S Q KIND SLBA BLOCKS HEX PIECE..` where
+/// KIND is `write` or `compare`, with S below their number. After the pieces may come what [`read_request`] reads there.
 ///
 /// # Errors
 ///
-/// [`ScriptFault::TooLong`] before any line is looked at, else the first fault of the first line that has one; and
+/// [`ScriptFault::TooLong`] before any line is read, else the first fault of the first line that has one; and
 /// [`ScriptFault::Memory`] where memory is refused.
 #[tactic(auto, using(crate::proofs::JobRuns::jobs_are_read))]
 pub fn read_jobs(alloc: Global, text: &[u8], submitters: u16) -> Result<JobScript, ScriptFault>

@@ -2,7 +2,7 @@
 //!
 //! [`read_jobs`] reads a script of jobs to its jobs, or to its first fault, with the lines and words of `script_cli`; [`run_jobs`] has
 //! them done, all at once or in rounds, and writes how they ended as lines or as objects of JSON; [`append_job_line`] writes one such line.
-//! [`test_jobs`] compares what they print with what stands below them in the script. `specs/Jobs.antt` says what a script of jobs is,
+//! [`test_jobs`] compares what they print with what is below them in the script. `specs/Jobs.antt` says what a script of jobs is,
 //! `specs/JobLines.antt` how a line is printed, and `specs/JobRuns.antt` what a run writes. [`worked_jobs`] computes some of these.
 #![tactic(auto)]
 

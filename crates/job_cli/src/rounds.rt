@@ -46,7 +46,7 @@ pub struct Pace {
 }
 
 impl Pace {
-    /// How many entries of the log of a round each of so many submitters may write.
+    /// How many entries of the log of a round each of this many submitters may write.
     pub(crate) fn share(self, submitters: usize) -> Option<u32>
         requires some { 1 ≤ submitters }
         requires few { submitters ≤ 16 }
@@ -57,7 +57,7 @@ impl Pace {
         }
     }
 
-    /// How far a run of so many jobs is after so long, of which these are left.
+    /// How far a run of this many jobs is after this long, of which these are left.
     fn standing(self, nanos: Option<u64>, jobs: usize, left: &[VecDeque<Job>]) -> Standing {
         let all = jobs as u64;
         Standing {

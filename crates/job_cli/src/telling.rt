@@ -56,7 +56,8 @@ fn end_text(alloc: Global, form: Form, heading: Heading, end: &JobEnd) -> Result
     Ok(text)
 }
 
-/// Writes how the jobs ended whose turn came: those of these headings, in their order, up to the first that has not ended. It answers the headings from that one on.
+/// Writes how the jobs ended whose turn came: those of these headings, in their order, up to the first that has not ended. It answers that heading
+/// and those after it.
 pub(crate) fn write_ended<'a, W: Write>(
     alloc: Global,
     form: Form,
@@ -113,7 +114,7 @@ fn closing_object(alloc: Global, world: &World) -> Result<String, AllocError> {
     Ok(text)
 }
 
-/// Writes what stands after the jobs.
+/// Writes what follows the jobs.
 pub(crate) fn write_closing<W: Write>(
     alloc: Global,
     form: Form,

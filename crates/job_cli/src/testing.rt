@@ -32,7 +32,7 @@ const PACE: Pace = Pace {
 /// Why nothing is compared.
 #[derive(Clone, Copy)]
 enum Undone {
-    /// The text is no script of jobs.
+    /// The text is not a script of jobs.
     Fault(TranscriptFault),
     /// No world was opened, or the threads did not end.
     NotOpened(OpeningFault),
@@ -73,7 +73,7 @@ fn script_of(alloc: Global, text: &str) -> Result<String, AllocError> {
     Ok(script)
 }
 
-/// Sees that no line but the first says options.
+/// Checks that no line but the first says options.
 fn check_options(text: &str) -> Result<(), TranscriptFault> {
     let mut number = 0u32;
     for line in text.lines() {
@@ -208,12 +208,13 @@ fn tested<R: Clock + Eprint + Threads + Wait + Sync>(
     )?)
 }
 
-/// Does the jobs of a script with what is printed for them, as `threads` does, and compares what is printed with what stands there behind `>`: below each job its line
-/// without its number, and below the last one the counts as well. The owners are left out. An option that the script does not say is one of these.
+/// Does the jobs of a script with what is printed for them, as `threads` does, and compares what is printed with what is there after `>`: below each
+/// job its line without its number, and below the last one the counts as well. The owners are left out. An option that the script does not say is one
+/// of these.
 ///
 /// # Errors
 ///
-/// Where memory is refused for what stands around the jobs.
+/// Where memory is refused for what surrounds the jobs.
 pub fn test_jobs<R: Clock + Eprint + Threads + Wait + Sync>(
     rt: &R,
     alloc: Global,

@@ -1,4 +1,4 @@
--- Blocks, pieces and numbers of a load, one behind the other.
+-- Blocks, pieces and numbers of a load, one after the other.
 use Rattle.std.proofs.Common.{◌≡◌, ◌∙◌, ℕ, ◌+◌, ◌-◌, ◌<◌, suc, List, ◌++◌, arith, ap, append_assoc, sym, add-one, ◌*◌, ◌/◌, ◌%◌, ◌^◌, ◌≤◌, inl, inr, refl, subst, All, [], ◌∷◌, length, map, ◌⊎◌, Option}
 use Rattle.std.proofs.Math.{ListN.get_or-append, Nat.{add-mul, mul-add, mul-le-mul_right, pow-suc}, Seq.get_or-append_seam}
 use Rattle.std.{proofs.lemmas.{Bool.{cases_lt, le-ltb, lt-ltb}, List.{length-append, length-map, map-append, append-nil}}, specs.Io.KnownBytes.{Appends, Keeps}}
@@ -18,7 +18,7 @@ next_block seed generation at end more =
     let left : end - at ≡ suc (end - (at + 1)) = omega arith in
     ap (blocks_bytes seed generation at) left
 
--- a block behind the bytes so far
+-- a block after the bytes so far
 pub block_put : (seed generation at end : ℕ) (old new whole : List ℕ) → at < end → new ≡ old ++ block_bytes seed at generation
     → old ++ blocks_bytes seed generation at (end - at) ≡ whole → new ++ blocks_bytes seed generation (at + 1) (end - (at + 1)) ≡ whole
 block_put seed generation at end old new whole more put is =
@@ -34,7 +34,7 @@ next_row row at more =
     let left : 7 - at ≡ suc (7 - (at + 1)) = omega arith in
     ap (rows row at) left
 
--- a row behind the bytes so far
+-- a row after the bytes so far
 pub row_put : (row : List ℕ) (at : ℕ) (old mid new whole : List ℕ) → at < 7 → mid ≡ old ++ at ∷ [] → new ≡ mid ++ row
     → old ++ rows row at (7 - at) ≡ whole → new ++ rows row (at + 1) (7 - (at + 1)) ≡ whole
 row_put row at old mid new whole more pushed put is =
@@ -53,7 +53,7 @@ twice n =
     let next : 2 ^ (n + 1) ≡ 2 ^ n * 2 = ap (λ (m : ℕ). 2 ^ m) (add-one n) ∙ pow-suc 2 n in
     omega (arith, next)
 
--- What holds of a number between so many powers of two and one more of them
+-- What holds of a number between this many powers of two and one more of them
 pub record IsBetween (shift top value : ℕ) : Type 0 where
   pub low : top * 2 ^ shift ≤ value
   pub high : value < (top + 1) * 2 ^ shift
@@ -141,7 +141,7 @@ in_bucket shift top value few is =
           (omega (arith, first, low), omega (arith, after, high))
     ]
 
--- Lists of lists, one behind the other.
+-- Lists of lists, one after the other.
 
 -- what holds of each place holds with one more
 each_behind : {X : Type 0} (P : ℕ → X → Type 0) (xs : List X) (y : X) → ((s : ℕ) (d : X) → s < length xs → P s (slice_index_or xs s d)) → P (length xs) y
@@ -179,7 +179,7 @@ first_page rest more =
     ap (λ (n : ℕ). full_pieces ((rest - 1) / 8) (Data 0 (512 * n) ∷ [])) last
     ∙ ap (λ (n : ℕ). full_pieces n (Data 0 (512 * (rest - 8 - 8 * ((rest - 8 - 1) / 8))) ∷ [])) pages
 
--- a full page behind the pieces so far
+-- a full page after the pieces so far
 pub page_pushed : (old new : List Piece) (rest blocks : ℕ) → new ≡ old ++ Data 0 4096 ∷ [] → 8 < rest → old ++ pieces_of rest ≡ pieces_of blocks
     → new ++ pieces_of (rest - 8) ≡ pieces_of blocks
 page_pushed old new rest blocks pushed more is =
@@ -215,6 +215,6 @@ nothing_written pattern bytes = ([], (no_tally, (line_text pattern no_tally, ref
 pub front_written : (pattern : Pattern) (tally : Tally) (a b : Option (List ℕ)) → Gains a b (λ front. IsFront front (line_text pattern tally)) → Gains a b (IsLineFront pattern)
 front_written pattern tally a b (bytes, front, appends) = (bytes, (tally, front), appends)
 
--- a line that is written whole is a front of itself
+-- a line that is written whole is a prefix of itself
 pub whole_written : (line : List ℕ) (a b c : Option (List ℕ)) → Appends a b line → Keeps b c → Gains a c (λ front. IsFront front line)
 whole_written line a b c written kept = (line, ([], sym (append-nil line)), keeps_then a b c line written kept)

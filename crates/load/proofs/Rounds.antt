@@ -1,4 +1,4 @@
--- Rounds, one behind the other.
+-- Rounds, one after the other.
 use Rattle.std.proofs.Common.{◌≡◌, ◌∙◌, ◌⊎◌, ℕ, ◌+◌, ◌-◌, ◌<◌, ◌==◌, suc, Bool, true, false, if◌then◌else◌, Option, List, [], ◌∷◌, ◌++◌, arith, ap, append_assoc, sym, inl, inr, refl, subst, drop, length, map, replicate, take, ◌*◌}
 use Rattle.std.proofs.lemmas.{Bool.ne_eqb, List.{append-nil, drop_all, ext_get_or, get_or-map, length-map, take_all}}
 use Rattle.std.specs.Prelude.{slice_index}
@@ -23,7 +23,7 @@ same_setting c d layout seed queues round content =
 
 -- Rounds of commands
 
--- one round more
+-- one more round
 pub gone_on_more : (what : Load) (s : Setting) (begun : ℕ) (before : Standing) (rounds : List Round) (many : ℕ) (standing : Standing) (nanos : Option ℕ) (round : Round)
     → GoOn what s begun before rounds many standing → 0 < commands_left what many nanos → IsRoundOf s (commands_left what many nanos) standing round
     → GoOn what s begun before (rounds ++ round ∷ []) (sum_of many (commands_of round.plans)) (after s true standing round)
@@ -51,7 +51,7 @@ gone_on_by what s other begun before rounds many standing nanos more count next 
           (subst (λ (x : Standing). GoOn what s begun before (rounds ++ round ∷ []) (sum_of many (commands_of round.plans)) x) (sym stands) on),
     )
 
--- one round of reads more
+-- one more round of reads
 pub read_on_more : (s : Setting) (from : ℕ) (before : Standing) (rounds : List Round) (at : ℕ) (standing : Standing) (round : Round)
     → ReadOn s from before rounds at standing → at < s.layout.slots → IsReadOf s at standing round → ReadOn s from before (rounds ++ round ∷ []) (at + reads_of s) (after s false standing round)
 read_on_more s from before [] at standing round (same, here) some is =
@@ -139,7 +139,7 @@ jobs_long layout seed content queues plans lists jobs =
     let under : i < length plans = omega (arith, less, jobs.all) in
     get_or-map length lists i [] 0 less ∙ ap length (jobs.each i [] [] less) ∙ length-map _ (job_for layout seed content (queue_of queues i)) ∙ sym (get_or-map length plans i [] 0 under))
 
--- One round more
+-- One more round
 
 abbrev place : List ℕ → State → Tally → Standing
 place generations machine tally = record { generations = generations; machine = machine; tally = tally }
@@ -149,7 +149,7 @@ pub same_standing : (c d : Course) (m n : State) → c.generations.items ≡ d.g
 same_standing c d m n noted machine told =
     ap (λ (x : List ℕ). place x m c.tally) noted ∙ ap (λ (x : State). place d.generations.items x c.tally) machine ∙ ap (place d.generations.items n) told
 
--- where plans were done, and their ends noted and counted, a round stands behind where the load stood
+-- where plans were done, and their ends noted and counted, a round comes after where the load stood
 pub stands_after : (s : Setting) (of_load : Bool) (before : Standing) (round : Round) (c : Course) → c.generations.items ≡ all_noted before.generations round.plans round.ends
     → c.tally ≡ both before.tally (counted of_load (tallies_from no_tally round.plans round.ends)) → standing_of c round.world.state ≡ after s of_load before round
 stands_after s of_load before round c noted told =

@@ -1,4 +1,4 @@
--- What is written, one behind the other.
+-- What is written, one after the other.
 use Rattle.std.proofs.Common.{◌∙◌, ap, subst, List, [], ◌∷◌, ◌++◌, append_assoc, Some, None, OnOk, Result, Ok, Err}
 use Rattle.serde.specs.Event.{Event, Log, Logs}
 use Rattle.load.specs.Objects.{Adds, AddsTo}

@@ -4,11 +4,11 @@ use Rattle.std.specs.Prelude.{◌≡◌, ℕ, ◌+◌, ◌-◌, ◌*◌, ◌/◌
 use Rattle.load.specs.{Planning.{IsPlanOf, TaskJob, job_for}, declared.{content.Content.Content, layout.Layout.Layout, plan.Planned.Planned}}
 use Rattle.script_cli.specs.declared.workload.Load.{Load}
 
--- how many of so many commands a submitter does: as many as each other, or one more
+-- how many of a given number of commands a submitter does: as many as each other, or one more
 abbrev pub share_of : ℕ → ℕ → ℕ → ℕ
 share_of commands submitters submitter = commands / submitters + (if nat_lt submitter (commands % submitters) then 1 else 0)
 
--- each submitter has its plan, of its share of so many commands
+-- each submitter has its plan, of its share of this many commands
 pub record ArePlans (layout : Layout) (generations : List ℕ) (commands : ℕ) (plans : List (List Planned)) : Type 0 where
   pub all : length plans ≡ layout.submitters
   pub each : (s : ℕ) (d : List Planned) → s < length plans → IsPlanOf layout generations s (share_of commands layout.submitters s) (slice_index_or plans s d)
@@ -31,12 +31,12 @@ abbrev pub commands_for : ℕ → ℕ → Option ℕ → ℕ
 commands_for blocks submitters None = min (max 800 (200 * submitters)) (204800 / blocks)
 commands_for blocks submitters (Some entries) = max (entries / entries_for blocks) 1
 
--- how many commands may be begun after so many: as many as there are numbers of 64 bits where their number does not bound them
+-- how many commands may be begun after this many: as many as there are numbers of 64 bits where their number does not bound them
 abbrev pub by_count : Option ℕ → ℕ → ℕ
 by_count None begun = 2 ^ 64 - 1
 by_count (Some count) begun = count - begun
 
--- none once so many seconds are over, nor where the clock cannot be read
+-- none once this many seconds are over, nor where the clock cannot be read
 abbrev pub in_time : Option ℕ → Option ℕ → ℕ → ℕ
 in_time None nanos left = left
 in_time (Some seconds) None left = 0

@@ -29,7 +29,7 @@ high_of bucket = if nat_lt bucket 32 then bucket else min ((17 + bucket % 16) * 
 abbrev pub Counts : List ℕ → ℕ → List ℕ → Type 0
 Counts old value new = (bucket : ℕ) × IsBucketOf bucket value × (new ≡ slice_set old bucket (min (slice_index old bucket + 1) (2 ^ 64 - 1)))
 
--- the least rank up to which so many thousandths of so many numbers lie
+-- the least rank up to which this many thousandths of this many numbers lie
 abbrev pub rank_of : ℕ → ℕ → ℕ
 rank_of many permille = (many * permille + 999) / 1000
 
@@ -68,6 +68,6 @@ pub record IsDeviationOf (numbers : Numbers) (root : ℕ) : Type 0 where
 abbrev pub high_within : ℕ → ℕ → ℕ
 high_within most bucket = if nat_lt bucket 976 then min (high_of bucket) most else most
 
--- the number up to which so many thousandths lie
+-- the number up to which this many thousandths lie
 abbrev pub percentile_of : Numbers → ℕ → ℕ
 percentile_of numbers permille = high_within numbers.most (bucket_at 0 numbers.counts (rank_of numbers.many permille))

@@ -3,11 +3,11 @@ use Rattle.std.specs.Prelude.{◌≡◌, ◌≤◌, ◌*◌, ◌/◌, ℕ, Optio
 use Rattle.load.specs.declared.layout.Layout.{Layout}
 use Rattle.script_cli.specs.declared.workload.Load.{Load}
 
--- how many blocks are used, of so many: those that are said, or all
+-- how many blocks are used, of this many: those that are said, or all
 abbrev pub blocks_used : Load → ℕ → ℕ
 blocks_used what blocks = unwrap_or what.size blocks
 
--- How many blocks are wanting, and how many there are of which they would be: more are to be used than there are, or there is not a slot for each submitter in those that are used.
+-- How many blocks are needed, and how many there are, where these are too few: more are to be used than there are, or those in use have no slot for each submitter.
 abbrev pub too_few : Load → ℕ → Option (ℕ × ℕ)
 too_few what blocks =
     if nat_lt blocks (blocks_used what blocks) then Some (blocks_used what blocks, blocks)

@@ -12,7 +12,7 @@ line_text pattern tally =
     codes "load " ++ (pattern_name pattern ++ (codes " done " ++ (decimal tally.done ++ (codes " refused " ++ (decimal tally.refused ++ (codes " failed " ++ (decimal tally.failed
     ++ (codes " verified " ++ (decimal tally.verified ++ (codes " differ " ++ (decimal tally.differ ++ (10 ∷ []))))))))))))
 
--- the front of such a line
+-- a prefix of such a line
 abbrev pub IsLineFront : Pattern → List ℕ → Type 0
 IsLineFront pattern front = (tally : Tally) × IsFront front (line_text pattern tally)
 

@@ -21,7 +21,7 @@ IsFirst false seed bytes content = content ≡ None
 IsFirst true seed bytes None = ⊥
 IsFirst true seed bytes (Some content) = (content.seed ≡ seed) × (content.first.items ≡ bytes)
 
--- what is loaded, over so many queues and this image
+-- what is loaded, over this many queues and this image
 pub record IsSettingFor (what : Load) (queues : ℕ) (image : List ℕ) (s : Setting) : Type 0 where
   pub layout : IsLayoutFor what (block_count image) s.layout
   pub seed : s.seed ≡ what.seed
@@ -33,12 +33,13 @@ pub record IsSettingFor (what : Load) (queues : ℕ) (image : List ℕ) (s : Set
 abbrev pub start : Setting → State → Standing
 start s machine = record { generations = replicate (s.layout.submitters * s.layout.slots) 0; machine = machine; tally = no_tally }
 
--- where it is compared, what was written was read once more
+-- where it is compared, what was written was read again
 abbrev pub IsReadAgain : Bool → Setting → Standing → Standing → Type 0
 IsReadAgain false s before standing = standing ≡ before
 IsReadAgain true s before standing = HasReadAgain s before standing
 
--- A load ran over a configuration and an image, and its commands and the reads behind it came to this: the first round began over the machine that they open, each other over the one that the round before left.
+-- A load ran over a configuration and an image, and its commands and the reads after it came to this: the first round began over the machine that they open, each
+-- other over the one that the round before left.
 pub record HasRun (config : Config) (image : List ℕ) (what : Load) (tally : Tally) : Type 0 where
   pub setting : Setting
   pub is_setting : IsSettingFor what config.queues image setting

@@ -29,7 +29,7 @@ pub record IsLatenciesOf (took : Numbers) (l : Latencies) : Type 0 where
 abbrev pub bytes_of : ℕ → ℕ → ℕ
 bytes_of many command_bytes = min (many * command_bytes) (2 ^ 64 - 1)
 
--- reads or writes, of so many bytes each, in so many nanoseconds
+-- reads or writes, of this many bytes each, in this many nanoseconds
 pub record IsDirectionOf (command_bytes nanos : ℕ) (took : Numbers) (d : Direction) : Type 0 where
   pub io_bytes : d.io_bytes ≡ bytes_of took.many command_bytes
   pub bw_bytes : d.bw_bytes ≡ rate_of (bytes_of took.many command_bytes) nanos
@@ -62,7 +62,7 @@ number_events name number = field_key name AsIs ∷ unsigned number ∷ []
 abbrev pub key_event : List ℕ → List Event
 key_event name = field_key name AsIs ∷ []
 
--- an object of so many members
+-- an object of this many members
 abbrev pub object_events : ℕ → List Event → List Event
 object_events many members = (map_begins (Some many) ∷ [] ++ members) ++ map_ends ∷ []
 

@@ -17,18 +17,18 @@ is_random pattern.RandRead = true
 is_random pattern.RandWrite = true
 is_random pattern.RandRw = true
 
--- different slots out of so many, so many at most, and some where some may be
+-- different slots out of a given number, this many at most, and some where some may be
 pub record ArePicked (slots most : ℕ) (picked : List ℕ) : Type 0 where
   pub few : length picked ≤ most
   pub some : 1 ≤ most → 1 ≤ length picked
   pub sample : IsSampleOf slots (length picked) picked
 
--- so many numbers from one on, in order
+-- this many numbers starting at one, in order
 pub record AreCounted (from many : ℕ) (numbers : List ℕ) : Type 0 where
   pub count : length numbers ≡ many
   pub each : (k d : ℕ) → k < length numbers → slice_index_or numbers k d ≡ from + k
 
--- the slots that come next in turn, and the one that is next then: behind the last it is the first
+-- the slots that come next in turn, and the one that is next then: after the last it is the first
 abbrev pub AreNext : ℕ → ℕ → ℕ → List ℕ → ℕ → Type 0
 AreNext next slots most picked after =
     let from = if nat_lt next slots then next else 0 in
@@ -44,7 +44,7 @@ only_kind pattern.RandRead = Some kind.Read
 only_kind pattern.RandWrite = Some kind.Write
 only_kind pattern.RandRw = None
 
--- so many of a hundred words say that a command reads
+-- this many of a hundred words say that a command reads
 abbrev pub kind_of_word : ℕ → ℕ → Kind
 kind_of_word reads word = if nat_lt (word % 100) reads then kind.Read else kind.Write
 

@@ -41,13 +41,13 @@ wrote other what = false
 abbrev pub noted_one : List ℕ → Planned → TaskEnd → List ℕ
 noted_one generations p end = if wrote p.kind end then slice_set generations p.slot p.generation else generations
 
--- behind the commands of a submitter
+-- after the commands of a submitter
 abbrev pub noted : List ℕ → List Planned → List TaskEnd → List ℕ
 noted generations [] ends = generations
 noted generations (p ∷ plan) [] = generations
 noted generations (p ∷ plan) (end ∷ ends) = noted (noted_one generations p end) plan ends
 
--- behind those of all submitters
+-- after those of all submitters
 abbrev pub all_noted : List ℕ → List (List Planned) → List (List TaskEnd) → List ℕ
 all_noted generations [] lists = generations
 all_noted generations (plan ∷ plans) [] = generations
@@ -77,7 +77,7 @@ commands_from many (plan ∷ plans) = commands_from (sum_of many (length plan)) 
 abbrev pub commands_of : List (List Planned) → ℕ
 commands_of plans = commands_from 0 plans
 
--- behind a round of commands of the load, or of reads behind it
+-- after a round of commands of the load, or of reads after it
 abbrev pub after : Setting → Bool → Standing → Round → Standing
 after s of_load before round = record {
   generations = all_noted before.generations round.plans round.ends;
@@ -85,19 +85,19 @@ after s of_load before round = record {
   tally = both before.tally (counted of_load (tallies_from no_tally round.plans round.ends));
 }
 
--- so many commands at most are planned, and done
+-- this many commands at most are planned, and done
 pub record IsRoundOf (s : Setting) (most : ℕ) (before : Standing) (round : Round) : Type 0 where
   pub planned : ArePlans s.layout before.generations (min most s.round) round.plans
   pub done : AreDone s before.machine round.plans round.ends round.world
 
--- one round, of so many commands, led from where a load stood to where it stands
+-- one round, of this many commands, led from where a load stood to where it stands
 pub record GoesOn (s : Setting) (most : ℕ) (before : Standing) (many : ℕ) (standing : Standing) : Type 0 where
   pub round : Round
   pub is_round : IsRoundOf s most before round
   pub count : many ≡ commands_of round.plans
   pub stands : standing ≡ after s true before round
 
--- Rounds of the load went on from where it stood to where it stands, and from so many commands to so many. Each was begun as commands were left.
+-- Rounds of the load went on from where it stood to where it stands, and from this many commands to this many. Each was begun as commands were left.
 abbrev pub GoOn : Load → Setting → ℕ → Standing → List Round → ℕ → Standing → Type 0
 GoOn what s begun before [] many standing = (many ≡ begun) × (standing ≡ before)
 GoOn what s begun before (round ∷ rounds) many standing =
@@ -112,9 +112,9 @@ pub record HasGoneOn (what : Load) (s : Setting) (before standing : Standing) : 
   pub go_on : GoOn what s 0 before rounds begun standing
   pub none_left : commands_left what begun nanos ≡ 0
 
--- Reads behind the load
+-- Reads after the load
 
--- Reads of those that were written, of so many slots from one on
+-- Reads of those that were written, of this many slots starting at one
 abbrev pub reads_from : List ℕ → ℕ → ℕ → List Planned
 reads_from generations slot zero = []
 reads_from generations slot (suc many) =
@@ -124,14 +124,14 @@ reads_from generations slot (suc many) =
 abbrev pub reads_of : Setting → ℕ
 reads_of s = min s.layout.slots (max (s.round / s.layout.submitters) 1)
 
--- each submitter has the reads of so many of its slots from one on
+-- each submitter has the reads of this many of its slots starting at one
 pub record AreReads (layout : Layout) (generations : List ℕ) (from many : ℕ) (plans : List (List Planned)) : Type 0 where
   pub all : length plans ≡ layout.submitters
   pub each :
       (s : ℕ) (d : List Planned) → s < length plans
       → slice_index_or plans s d ≡ reads_from generations (s * layout.slots + min from layout.slots) (min many (layout.slots - from))
 
--- so many of each submitter's slots are read that were written, from one on
+-- this many of each submitter's slots are read that were written, starting at one
 pub record IsReadOf (s : Setting) (from : ℕ) (before : Standing) (round : Round) : Type 0 where
   pub planned : AreReads s.layout before.generations from (reads_of s) round.plans
   pub done : AreDone s before.machine round.plans round.ends round.world
@@ -148,7 +148,7 @@ ReadOn s from before [] at standing = (at ≡ from) × (standing ≡ before)
 ReadOn s from before (round ∷ rounds) at standing =
     ((from < s.layout.slots) × IsReadOf s from before round) × ReadOn s (from + reads_of s) (after s false before round) rounds at standing
 
--- They went on from the first slot until there was none: each slot that was written was read once more.
+-- They went on from the first slot until there was none: each slot that was written was read again.
 pub record HasReadAgain (s : Setting) (before standing : Standing) : Type 0 where
   pub rounds : List Round
   pub at : ℕ

@@ -2,7 +2,7 @@
 use Rattle.std.specs.Prelude.{ℕ, ◌+◌, ◌*◌, ◌/◌, ◌%◌, ◌^◌, ◌-◌, ◌==◌, List, [], ◌∷◌, ◌++◌, codes, decimal, max, min, if◌then◌else◌}
 use Rattle.load.specs.{Histograms.{Numbers, least_of, mean_of, percentile_of}, declared.measured.Measured.Measured}
 
--- how many there are in a second, of so many in so many nanoseconds
+-- how many there are in a second, given this many in this many nanoseconds
 abbrev pub rate_of : ℕ → ℕ → ℕ
 rate_of many nanos = min (many * 1000000) (2 ^ 64 - 1) / max (nanos / 1000) 1
 
@@ -10,7 +10,7 @@ rate_of many nanos = min (many * 1000000) (2 ^ 64 - 1) / max (nanos / 1000) 1
 abbrev pub micros_text : ℕ → List ℕ
 micros_text nanos = decimal (nanos / 1000) ++ (codes "." ++ decimal (nanos / 100 % 10))
 
--- how many commands there were in a second, and how many MiB, with a tenth, of so many commands of so many bytes
+-- how many commands there were in a second, and how many MiB, with a tenth, of this many commands of this many bytes
 unfoldable pub rates_text : ℕ → ℕ → ℕ → List ℕ
 rates_text many command_bytes nanos =
     let kib = rate_of (min (many * command_bytes) (2 ^ 64 - 1)) nanos / 1024 in

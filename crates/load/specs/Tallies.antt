@@ -73,7 +73,7 @@ tallies_from tally [] lists = tally
 tallies_from tally (plan ∷ plans) [] = tally
 tallies_from tally (plan ∷ plans) (ends ∷ lists) = tallies_from (both tally (tally_from no_tally plan ends)) plans lists
 
--- what is counted of a round: of reads behind the load none is done
+-- what is counted of a round: of reads after the load none is done
 abbrev pub counted : Bool → Tally → Tally
 counted true tally = tally
 counted false tally = record tally { done = 0 }

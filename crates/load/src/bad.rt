@@ -13,7 +13,7 @@ pub enum Why {
     Refused(JobRefusal),
     /// It ended with a status that is not 0:00.
     Status(Status),
-    /// It brought other bytes than stand there.
+    /// It brought other bytes than are there.
     Differs,
 }
 

@@ -19,7 +19,7 @@ fn put_rows(out: &mut Vec<u8>, row: &[u8; 71]) -> Result<(), AllocError>
     Ok(())
 }
 
-/// Puts the bytes of a block as it is after so many writes: its number, how often it was written, and rows of bytes made of both and of the seed.
+/// Puts the bytes of a block as it is after this many writes: its number, how often it was written, and rows of bytes made of both and of the seed.
 #[tactic(auto, unfolding(crate::specs::Content::block_bytes))]
 fn put_block(out: &mut Vec<u8>, seed: u32, block: u32, generation: u32) -> Result<(), AllocError>
     ensures { OnOk result (out.new.items ≡ out.old.items ++ block_bytes seed block generation) }
@@ -33,7 +33,7 @@ fn put_block(out: &mut Vec<u8>, seed: u32, block: u32, generation: u32) -> Resul
     put_rows(out, &row)
 }
 
-/// The bytes of a slot that was written so often, once at least.
+/// The bytes of a slot that was written this often, once at least.
 pub(crate) fn written_slot(
     alloc: Global,
     layout: Layout,
@@ -61,7 +61,7 @@ pub(crate) struct Content {
 }
 
 impl Content {
-    /// The bytes of a slot that was written so often.
+    /// The bytes of a slot that was written this often.
     pub(crate) fn of_slot(
         &self,
         alloc: Global,

@@ -22,7 +22,7 @@ use driver_threads::Server;
 use script_cli::workload::Load;
 use std::alloc::{AllocError, Global};
 
-/// The most commands of a round whose log is not limited and which has few submitters: so many leave a log of some thousand entries.
+/// The most commands of a round whose log is not limited and which has few submitters: this many leave a log of some thousand entries.
 const USUAL_ROUND: u64 = 800;
 
 /// The most commands of each submitter in such a round where there are more: each round starts their threads.
@@ -31,7 +31,7 @@ const USUAL_SHARE: u64 = 200;
 /// The most blocks that the commands of such a round read or write in all: 100 MiB.
 const MOST_BLOCKS: u64 = 204_800;
 
-/// What goes on from round to round, beside the world.
+/// What goes on from round to round, besides the world.
 #[derive(Drop)]
 pub(crate) struct Course {
     layout: Layout,
@@ -56,7 +56,7 @@ pub(crate) struct Course {
     ghost whole: { IfSome content (λ c. vec_len c.first ≡ 512 * layout.blocks) } by { Prim.hlevel props },
 }
 
-/// The most commands of a round, each of so many blocks: so many that its log has no more entries than it may have, and one at least.
+/// The most commands of a round, each of this many blocks: so many that its log has no more entries than it may have, and one at least.
 fn commands_for(command_blocks: u32, submitters: u16, log_limit: Option<u32>) -> u64
     requires some { 1 ≤ command_blocks }
     requires few { command_blocks ≤ 256 }
@@ -70,7 +70,7 @@ fn commands_for(command_blocks: u32, submitters: u16, log_limit: Option<u32>) ->
     (u64::from(entries) / (8 + 3 * pages)).max(1)
 }
 
-/// How many of so many commands a submitter does.
+/// How many of a given number of commands a submitter does.
 fn share_of(commands: u64, submitters: u16, submitter: u16) -> u64
     requires { submitter < submitters }
     ensures { result ≡ spec_share_of commands submitters submitter }
@@ -136,7 +136,7 @@ impl Course {
         self.tally
     }
 
-    /// The next commands of the load, so many at most.
+    /// The next commands of the load, this many at most.
     pub(crate) fn plan(&mut self, alloc: Global, most: u64) -> Result<Vec<Vec<Planned>>, AllocError>
         ensures all { IfOk result (λ plans. vec_len plans ≡ self.new.layout.submitters) }
         ensures inside { IfOk result (λ plans. All (λ plan. All (IsInside self.new.layout) plan.items) plans.items) }
@@ -161,7 +161,7 @@ impl Course {
         Ok(plans)
     }
 
-    /// Reads of slots that were written, of each submitter those from a slot on, and the slot that is next.
+    /// Reads of slots that were written, of each submitter those starting at a slot, and the slot that is next.
     pub(crate) fn plan_reads(
         &self,
         alloc: Global,
@@ -189,7 +189,7 @@ impl Course {
         self.layout.slots
     }
 
-    /// How many slots of each submitter are read once more in a round.
+    /// How many slots of each submitter are read again in a round.
     pub(crate) fn round_slots(&self) -> usize
         ensures { result ≡ min self.now.layout.slots (max (self.now.round / self.now.layout.submitters) 1) }
     {
@@ -241,7 +241,7 @@ impl Course {
         tally
     }
 
-    /// Counts commands of the load, or reads behind them.
+    /// Counts commands of the load, or reads after them.
     pub(crate) fn count(&mut self, tally: Tally, of_load: bool)
         ensures counted { self.new.tally ≡ both self.old.tally (counted of_load tally) }
         ensures layout { self.new.layout ≡ self.old.layout }
@@ -269,7 +269,7 @@ impl Course {
         }
     }
 
-    /// What it came to so far, in so many nanoseconds, of commands of so many bytes.
+    /// What it came to so far, in this many nanoseconds, of commands of this many bytes.
     pub(crate) fn figures(&self, command_bytes: u64, nanos: u64) -> Figures<'_> {
         Figures {
             tally: self.tally,

@@ -59,7 +59,7 @@ fn high_of(bucket: usize) -> u64
     past.saturating_mul(1 << shift) - 1
 }
 
-/// Which number, in their order, has so many thousandths of them up to it.
+/// Which number, in their order, has this many thousandths of them up to it.
 fn rank_of(many: u64, permille: u64) -> u64
     requires { permille ≤ 1000 }
     ensures { result ≡ spec_rank_of many permille }
@@ -153,7 +153,7 @@ impl Histogram {
         BUCKETS
     }
 
-    /// The number up to which so many thousandths lie, to a sixteenth.
+    /// The number up to which this many thousandths lie, to a sixteenth.
     pub(crate) fn percentile(&self, permille: u64) -> u64
         requires { permille ≤ 1000 }
         ensures { result ≡ percentile_of self.now permille }

@@ -11,7 +11,7 @@ use std::alloc::AllocError;
 ///
 /// # Errors
 ///
-/// Where memory is refused. A part of the line may then stand in the text.
+/// Where memory is refused. A part of the line may then be in the text.
 pub fn append_line(out: &mut String, pattern: Pattern, tally: Tally) -> Result<(), AllocError>
     ensures { OnOk result (string_bytes out.new ≡ string_bytes out.old ++ line_text pattern tally) }
 {

@@ -24,7 +24,7 @@ impl Measured {
         })
     }
 
-    /// Counts how long the commands of a submitter took, of which those that were not refused are told, in their order.
+    /// Counts how long the commands of a submitter took; those that were not refused are told, in their order.
     pub(crate) fn add(&mut self, plan: &[Planned], ends: &[TaskEnd], took: &[u64]) {
         let mut rest = took;
         for (planned, end) in plan.iter().zip(ends) {

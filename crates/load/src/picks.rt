@@ -65,7 +65,7 @@ impl Picks {
         }
     }
 
-    /// So many different slots at most, of so many. In turn, they end with the last slot; the first is behind it.
+    /// This many different slots at most, out of a given number. In turn, they end with the last slot; the first comes after it.
     pub(crate) fn slots(
         &mut self,
         alloc: Global,

@@ -40,7 +40,7 @@ pub(crate) fn plan_one(generations: &[u32], slot: usize, kind: Kind) -> Planned
     }
 }
 
-/// The next commands of a submitter, so many at most, each for a slot of its own.
+/// The next commands of a submitter, this many at most, each for a slot of its own.
 pub(crate) fn plan_some(
     alloc: Global,
     layout: Layout,
@@ -64,7 +64,7 @@ pub(crate) fn plan_some(
     Ok(plan)
 }
 
-/// Reads of those that were written, of so many slots from one on.
+/// Reads of those that were written, of this many slots starting at one.
 pub(crate) fn reads_of(
     alloc: Global,
     layout: Layout,

@@ -9,7 +9,7 @@ pub(crate) struct Interval {
 }
 
 impl Interval {
-    /// A report each time that so many seconds have gone by, if that is said.
+    /// A report each time that this many seconds have gone by, if that is said.
     pub(crate) fn new(seconds: Option<u32>) -> Interval {
         let every = seconds.map(|seconds| u64::from(seconds) * 1_000_000_000);
         Interval {
@@ -18,7 +18,7 @@ impl Interval {
         }
     }
 
-    /// Whether a report is due after so many nanoseconds. Then the next is due an interval later.
+    /// Whether a report is due after this many nanoseconds. Then the next is due an interval later.
     pub(crate) fn is_due(&mut self, nanos: u64) -> bool {
         let Some(every) = self.every else {
             return false;

@@ -127,7 +127,7 @@ fn commands_of(plans: &[Vec<Planned>]) -> u64
     many
 }
 
-/// How many more commands may be begun, after so many and so long; time ends it too where the clock cannot be read.
+/// How many more commands may be begun, after this many and this long; time ends it too where the clock cannot be read.
 fn commands_left(load: &Load<'_>, begun: u64, nanos: Option<u64>) -> u64
     ensures { result ≡ spec_commands_left load.now begun nanos }
 {
@@ -144,7 +144,7 @@ fn commands_left(load: &Load<'_>, begun: u64, nanos: Option<u64>) -> u64
     }
 }
 
-/// How far a load is, after so many commands and so long.
+/// How far a load is, after this many commands and this long.
 fn standing_of(load: &Load<'_>, done: u64, nanos: Option<u64>) -> Standing {
     Standing {
         done,
@@ -157,7 +157,7 @@ fn standing_of(load: &Load<'_>, done: u64, nanos: Option<u64>) -> Standing {
     }
 }
 
-/// Makes the next commands of a load, so many at most, and runs, counts and measures them: the world that they leave, and how many they were.
+/// Makes the next commands of a load, this many at most, and runs, counts and measures them: the world that they leave, and how many they were.
 fn run_some<R: Clock + Threads + Wait + Sync>(
     rt: &R,
     alloc: Global,
@@ -228,7 +228,7 @@ fn run_commands<R: Clock + Eprint + Threads + Wait + Sync, P: Report>(
     Ok(world)
 }
 
-/// Reads slots that were written once more, of each submitter those of a round, from this one on.
+/// Reads again slots that were written, of each submitter those of a round, starting at this one.
 fn read_some<R: Threads + Wait + Sync>(
     rt: &R,
     alloc: Global,
@@ -248,7 +248,7 @@ fn read_some<R: Threads + Wait + Sync>(
     Ok(left.world)
 }
 
-/// Reads each slot that was written once more, in rounds.
+/// Reads each written slot again, in rounds.
 fn read_again<R: Threads + Wait + Sync>(
     rt: &R,
     alloc: Global,
@@ -269,7 +269,7 @@ fn read_again<R: Threads + Wait + Sync>(
     Ok(world)
 }
 
-/// Reads what was written once more, where that is compared.
+/// Reads again what was written, where that is compared.
 fn read_if_verified<R: Threads + Wait + Sync>(
     rt: &R,
     alloc: Global,
@@ -307,7 +307,7 @@ fn share_out(blocks: u32, load: &Load<'_>) -> Result<Layout, LoadFault>
     }
 }
 
-/// What so many blocks of an image hold at first, where that is compared.
+/// What this many blocks of an image hold at first, where that is compared.
 fn first_content(
     alloc: Global,
     image: &Image,
@@ -383,14 +383,14 @@ fn tell_end<W: Write>(
     }
 }
 
-/// Opens a world over an image, runs the commands of a load over it, reads what they wrote once more where that is asked for, and writes the line
+/// Opens a world over an image, runs the commands of a load over it, reads again what they wrote where that is asked for, and writes the line
 /// that says how it went, unless standard output gets JSON: then nothing is written. Where it shows, standard error says how far it is. `server` says who serves as
 /// the submitters ring, and `report` is told what it came to so far, between rounds, each time that the load's interval has gone by: then standard error has a line that stays too, unless the load is quiet.
 ///
 /// # Errors
 ///
 /// [`LoadFault::TooFewBlocks`]; then why the opening is refused; then why a round did not run to its end. Nothing is written then. `Memory` where memory is refused, and
-/// `OutputFailed` where a write or the flush fails: the front of the line may then be written.
+/// `OutputFailed` where a write or the flush fails: a prefix of the line may then be written.
 #[tactic(auto, using(crate::proofs::Loads::nothing_written, crate::proofs::Loads::front_written))]
 pub fn run_load<R: AllocGlobal + Clock + Eprint + Threads + Wait + Sync, P: Report, W: Write>(
     rt: &R,

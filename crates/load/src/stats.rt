@@ -13,7 +13,7 @@ use std::alloc::{AllocError, Global};
 /// What the one job of a load is called.
 const NAME: &str = "load";
 
-/// The numbers up to which so many of a hundred lie.
+/// The numbers up to which this many of a hundred lie.
 #[derive(Clone, Copy)]
 struct Percentiles {
     half: u64,
@@ -225,8 +225,8 @@ impl Figures<'_> {
         }
     }
 
-    /// What was measured, as JSON in the form of fio: one job, of whose `read` and `write` each has `io_bytes`, `bw_bytes`, `iops`, `runtime`, `total_ios` and
-    /// `clat_ns`; beside it the program's version, `runtime_ns` and how many commands ended how.
+    /// What was measured, as JSON in the form of fio: one job, whose `read` and `write` each have `io_bytes`, `bw_bytes`, `iops`, `runtime`,
+    /// `total_ios` and `clat_ns`; besides it the program's version, `runtime_ns` and how many commands ended how.
     ///
     /// # Errors
     ///

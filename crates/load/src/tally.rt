@@ -41,7 +41,7 @@ impl Tally {
         }
     }
 
-    /// What is counted of a round: reads behind the load are no commands of it, and of these none is done.
+    /// What is counted of a round: reads after the load are no commands of it, and of these none is done.
     pub(crate) fn counted(self, of_load: bool) -> Tally
         ensures { result ≡ spec_counted of_load self }
     {

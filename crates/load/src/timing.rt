@@ -19,8 +19,8 @@ struct Times {
     took: Vec<u64>,
 }
 
-/// A gate that holds nobody, and measures how long each command has its pages: from its reservation until they are free again. Who rings may serve before the
-/// submission is told, so that is no beginning. Where the clock cannot be read, a submitter has no times.
+/// A gate that holds nobody, and measures how long each command has its pages: from its reservation until they are free again. Whoever rings may
+/// serve before the submission is told, so that is no beginning. Where the clock cannot be read, a submitter has no times.
 #[derive(Drop)]
 pub(crate) struct Timing<'a, R: Clock + Wait> {
     rt: &'a R,
@@ -28,7 +28,7 @@ pub(crate) struct Timing<'a, R: Clock + Wait> {
 }
 
 impl<'a, R: Clock + Wait> Timing<'a, R> {
-    /// No command yet of so many submitters.
+    /// No command yet of this many submitters.
     pub(crate) fn new(
         rt: &'a R,
         alloc: Global,

@@ -26,7 +26,7 @@ get_other zero f (y ∷ xs) zero far = absurd (far refl)
 get_other (suc k) f (y ∷ xs) (suc q) far = get_other k f xs q (λ e. far (ap suc e))
 get_other k f xs q far = refl
 
--- How often a number stands in a list.
+-- How often a number occurs in a list.
 
 counted : (b : Bool) (n : ℕ) → (if b then 1 + n else n) ≡ one b + n
 counted b n = grind arith
@@ -47,7 +47,7 @@ pub times-filter : (p : ℕ) (f : ℕ → Bool) (xs : List ℕ) → times p (fil
 times-filter p f [] = grind arith
 times-filter p f (x ∷ xs) = kept p x f xs (f x) (x == p) refl refl (times-filter p f xs)
 
--- a list holds a number where it stands in it at least once
+-- a list holds a number where it occurs in it at least once
 pub held_once : (p : ℕ) (xs : List ℕ) → is_among xs p ≡ true → 0 < times p xs
 held_once p [] h = absurd (true≢false (sym h))
 held_once p (x ∷ xs) h = grind (arith, held_once p xs)
@@ -64,11 +64,11 @@ times_there p x xs e = rw e refl
 
 pub times-pages : (p count : ℕ) → times p (pages_from 0 count) ≡ one (nat_lt p count)
 times-pages p zero = sym (ap one (le-ltb p 0 (omega arith)))
-times-pages p (suc n) = ap (times p) (pages_from-suc 0 n ∙ ap (λ (q : ℕ). pages_from 0 n ++ q ∷ []) (omega arith)) ∙ go (n == p) refl (times-pages p n)
+times-pages p (suc n) = ap (times p) (pages_from-suc 0 n ∙ ap (λ (q : ℕ). pages_from 0 n ++ q ∷ []) (omega arith)) ∙ by_page (n == p) refl (times-pages p n)
   where
-    go : (b : Bool) → (n == p) ≡ b → times p (pages_from 0 n) ≡ one (nat_lt p n) → times p (pages_from 0 n ++ n ∷ []) ≡ one (nat_lt p (suc n))
-    go true e ih = grind (arith, eqb-true, le-ltb, lt-ltb, times-append, times_here)
-    go false e ih = grind (arith, times-append, times_there)
+    by_page : (b : Bool) → (n == p) ≡ b → times p (pages_from 0 n) ≡ one (nat_lt p n) → times p (pages_from 0 n ++ n ∷ []) ≡ one (nat_lt p (suc n))
+    by_page true e ih = grind (arith, eqb-true, le-ltb, lt-ltb, times-append, times_here)
+    by_page false e ih = grind (arith, times-append, times_there)
 
 -- what is granted goes from the free numbers
 pub times_granted : (p : ℕ) (pages free : List ℕ) → times p pages ≡ (if is_among pages p && is_among free p then 1 else 0) → times p free ≤ 1
@@ -93,7 +93,7 @@ length_of_all (suc n) xs h =
     length_cut n (y ∷ ys) = grind (arith, length_cut n ys)
 
     each : (((p : ℕ) → times p (filter (λ x. not (x == n)) xs) ≡ one (nat_lt p n)) → length (filter (λ x. not (x == n)) xs) ≡ n) → length (filter (λ x. not (x == n)) xs) ≡ n
-    each go = grind (arith, filter, nat_lt, true, eqb-true, false, le-ltb, times-filter)
+    each from_counts = grind (arith, filter, nat_lt, true, eqb-true, false, le-ltb, times-filter)
 
 -- Sums over the records of a host.
 
@@ -145,9 +145,9 @@ total-change w f k [] x e = absurd cc
 total-change w f zero (y ∷ xs) x e = grind (arith, some_is)
 total-change w f (suc k) (y ∷ xs) x e = omega (arith, total-change w f k xs x e)
 
--- Runs of free pages: each page of a run is free and stands in it once.
+-- Runs of free pages: each page of a run is free and occurs in it once.
 
--- none of them stands twice
+-- none of them occurs twice
 none_before : (p first count : ℕ) → p < first → times p (pages_from first count) ≡ 0
 none_before p first zero l = refl
 none_before p first (suc count) l = grind (arith, none_before p (first + 1) count, times-cons)

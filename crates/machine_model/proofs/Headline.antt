@@ -19,7 +19,7 @@ use Rattle.std.proofs.lemmas.Grind.{common_steps}
 use Rattle.page_memory.proofs.Lists.{found_is}
 use Rattle.page_ledger.proofs.Pages.{length-pages_from}
 
--- What is placed are free pages, each once, and as many as are wanted where there are so many.
+-- What is placed are free pages, each once, and as many as are wanted where there are that many.
 
 -- Pages that are placed
 
@@ -72,7 +72,7 @@ length_chain free segment pieces once enough =
     let left = length_left (data_placed free pieces) free (λ p. placed_times p free (data_count pieces)) once in
     length_placed (without_numbers (data_placed free pieces) free) (chain_wanted free segment pieces) (omega (arith, front, left, enough))
 
--- where as many pages are free as a request wants, its data has room, and its chain behind it
+-- where as many pages are free as a request wants, its data has room, and its chain after it
 pub room_for : (free : List ℕ) (segment : ℕ) (pieces : List Piece) → wanted_of free segment pieces ≤ length free → data_count pieces + chain_wanted free segment pieces ≤ length free
 room_for free segment pieces enough = grind arith
 
@@ -119,7 +119,7 @@ whole p pages k le e =
 abbrev pub FitsPool : (pages queues n : ℕ) → Type 0
 FitsPool pages queues n = pages_of_queues queues n ≤ pages
 
--- what opens has pages enough, and its limits
+-- what opens has enough pages, and its limits
 pub fits_pool : (pages queues n s : ℕ) → Opens pages queues n s → FitsPool pages queues n
 fits_pool pages queues n s opens = grind (arith, ltb-false, first_fails, rest_fails)
 

@@ -1,4 +1,5 @@
--- What no event of the host changes: the limits, whom the host speaks to, the image, how many pages there are; and but for a reset the jobs, and that something was forged.
+-- What no event of the host changes: the limits, whom the host speaks to, the image, how
+-- many pages there are; and, except for a reset, the jobs, and that something was forged.
 use Rattle.machine_model.specs.After as a
 use Rattle.machine_model.specs.Events as events
 use Rattle.std.proofs.Common.{◌≡◌, ℕ, ◌==◌, Bool, true, false, Some, List, [], ◌∷◌, ◌++◌, length, length-set, filter, find, if◌then◌else◌, eqb-true, refl, ap, sym, ◌∙◌, inl, inr}
@@ -92,16 +93,16 @@ ids_of s q cid r e = let p = and_parts (r.q == q) (r.cid == cid) (found_is (is_a
 -- the first record that passes a test is the first of those that pass another, if it does
 found_still : (test keep : Record → Bool) (rs : List Record) (r : Record) → keep r ≡ true → find test rs ≡ Some r → find test (filter keep rs) ≡ Some r
 found_still test keep [] r kept e = absurd cc
-found_still test keep (x ∷ rs) r kept e = go (keep x) (test x) refl refl e (found_still test keep rs r kept)
+found_still test keep (x ∷ rs) r kept e = by_tests (keep x) (test x) refl refl e (found_still test keep rs r kept)
   where
-    go : (b c : Bool) → keep x ≡ b → test x ≡ c → (if c then Some x else find test rs) ≡ Some r → (find test rs ≡ Some r → find test (filter keep rs) ≡ Some r)
+    by_tests : (b c : Bool) → keep x ≡ b → test x ≡ c → (if c then Some x else find test rs) ≡ Some r → (find test rs ≡ Some r → find test (filter keep rs) ≡ Some r)
         → find test (if b then x ∷ filter keep rs else filter keep rs) ≡ Some r
-    go true true k t e ih = rw t e
-    go true false k t e ih = rw t (ih e)
-    go false true k t e ih = let same : x ≡ r = cc in absurd (true≢false (sym kept ∙ ap keep (sym same) ∙ k))
-    go false false k t e ih = ih e
+    by_tests true true k t e ih = rw t e
+    by_tests true false k t e ih = rw t (ih e)
+    by_tests false true k t e ih = let same : x ≡ r = cc in absurd (true≢false (sym kept ∙ ap keep (sym same) ∙ k))
+    by_tests false false k t e ih = ih e
 
--- each I/O command is outstanding behind a reset, and held where it was submitted
+-- each I/O command is outstanding after a reset, and held where it was submitted
 pub io_left : (s : State) (q cid : ℕ) (r : Record) (request : Request) → record_at s.host q cid ≡ Some r → r.work ≡ Io request → record_at (a.after_reset s).host q cid ≡ Some (a.lost_anywhere r)
 io_left s q cid r request found w =
     find_map (is_at q cid) a.lost_anywhere (λ x. rw (lost_keeps.q x, lost_keeps.cid x) refl) (io_records s.host.records) r

@@ -68,7 +68,7 @@ pub making_sq_as_heard : (s : State) (q cid : ℕ) (st : Status) (e : ComEntry) 
 making_sq_as_heard s q cid st e r k n base holds heard w x ex =
     making_sq_is x.state (heard_waits creates_sq_of is_making_sq s q cid st e r k holds (submissions_awaited s.host holds.creations) heard (ap (creates_sq_of k) w ∙ eq-eqb k k refl) x ex)
 
--- Queues as they stand behind a move of a ring
+-- Queues as they stand after a move of a ring
 
 pub ring_at : (k q : ℕ) (g : HostRing → HostRing) (hs : List HostQueue) (y : HostQueue) → slice_get (change k (λ x. record x { ring = g x.ring }) hs) q ≡ Some y → (x : HostQueue) × (slice_get hs q ≡ Some x) × (y.state ≡ x.state)
 ring_at k q g [] y e = absurd cc
@@ -333,7 +333,7 @@ live_in_use = denies is_live is_making refl
 pub reaped_in_use : (st : HostState) → is_reaped st ≡ true → is_making st ≡ false
 reaped_in_use = denies is_reaped is_making refl
 
--- Every event of the host leaves a queue no page of a half that the host has not.
+-- Every event of the host leaves a queue no page of a half that the host does not have.
 
 abbrev Fit : List HostQueue → Type 0
 Fit hs = AllByRecursion HasNoOtherPages hs
@@ -526,7 +526,7 @@ bare_of s e reply ok c holds =
     ended : (q cid : ℕ) (e : ComEntry) → Bare (without_record q cid s.host.records) (a.heard q e s).host.queues
     ended q cid e = told (without_record q cid s.host.records) q e (bare_less q cid s.host.records s.host.queues h)
 
-    -- a queue is in use, or has not its rings, from now on
+    -- a queue is in use, or does not have its rings, from now on
     used : (q cid : ℕ) (e : ComEntry) (k : ℕ) (f : HostQueue → HostQueue) → ((x : HostQueue) → is_making (f x).state ≡ false) → Bare (without_record q cid s.host.records) (change k f (a.heard q e s).host.queues)
     used q cid e k f after = bare_change _ k f (a.heard q e s).host.queues (λ x ex m. absurd (true≢false (sym m ∙ after x))) (ended q cid e)
 

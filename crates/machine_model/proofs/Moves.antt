@@ -1,5 +1,5 @@
--- What an accepted event of the host finds and leaves, case by case: a statement that holds of what each case leaves holds after the event. An
--- event more is a case more here, and in each proof that is made by these cases.
+-- What an accepted event of the host finds and leaves, case by case: a statement that holds of what each case leaves holds after the event. One more event is one
+-- more case here, and in each proof that is made by these cases.
 use Rattle.std.proofs.Common.{◌≡◌, ℕ, ◌==◌, Bool, true, false, not, ◌&&◌, ◌||◌, Option, Some, None, List, [], ◌∷◌, ◌++◌, map, is_none, is_some, slice_get, eqb-true, if◌then◌else◌, refl, ap, ap₂, sym, ◌∙◌, subst, nat_eq, inl, inr, arith}
 use Rattle.std.{proofs.lemmas.{Bool.{true≢false, not-false, and_parts, or_parts}, List.map-append}, specs.Cmp.Lexicographic.pointwise}
 use Rattle.std.specs.Option.{option_map, option_map_or, option_and_then}
@@ -20,7 +20,7 @@ use Rattle.machine_model.specs.Events as events
 use Rattle.std.proofs.lemmas.Bool.{cases_Bool}
 use Rattle.slot_table.proofs.Rows.{option_is}
 
--- What a posted entry leaves: the memory alone hangs on whether the queue is there
+-- What a posted entry leaves: only the memory depends on whether the queue is there
 
 abbrev pub posted_bytes : ℕ → SubEntry → State → Pages
 posted_bytes q entry s =
@@ -317,12 +317,12 @@ told P s q cid st what move t =
 pub host_moves : (P : Event → Reply → State → Type 0) (s : State) (e : Event) (reply : Reply) → Accepts s e reply → IsController e ≡ false → HostMoves P s → P e reply (a.after s e reply)
 host_moves P s e (events.Refused why touched) ok c move = absurd (grind (arith, ok.1))
 host_moves P s (events.Reserve q request) (events.Reserved d) ok c move = move.reserves q request d ok.0 ok.1
-host_moves P s (events.Submit d) events.Accepted ok c move = go d.entry refl
+host_moves P s (events.Submit d) events.Accepted ok c move = by_entry d.entry refl
   where
-    go : (o : Option SubEntry) → d.entry ≡ o
+    by_entry : (o : Option SubEntry) → d.entry ≡ o
         → P (events.Submit d) events.Accepted (option_map_or (λ entry. a.posted d.q entry (a.on_records (with_record d.q d.cid a.submitted) (a.on_memory (with_pages (d.data_pages ++ d.chain_pages)) s))) o s)
-    go None e = absurd (true≢false (sym (ap is_none e) ∙ (unrefused s (events.Submit d) ok.0).1.0))
-    go (Some entry) e =
+    by_entry None e = absurd (true≢false (sym (ap is_none e) ∙ (unrefused s (events.Submit d) ok.0).1.0))
+    by_entry (Some entry) e =
         let r = draft_found s d ok.0 in
         subst (P (events.Submit d) events.Accepted) (posted_is d.q entry (a.on_records (with_record d.q d.cid a.submitted) (a.on_memory (with_pages (d.data_pages ++ d.chain_pages)) s))) (move.submits d entry r.0 ok.0 e r.1 (draft_lives s d ok.0))
 host_moves P s (events.Cancel d) events.Accepted ok c move =

@@ -62,7 +62,7 @@ pub asked_note : (s : State) (q cid : ℕ) (st : Status) (e : ComEntry) (r : Rec
     → (x : HostQueue) → slice_get (a.heard q e s).host.queues k ≡ Some x → is_asked x.state ≡ true
 asked_note s q cid st e r k holds f heard w x ex = ap is_asked (asked_as_heard s q cid st e r k holds heard w x ex)
 
--- a live queue behind a move of a ring
+-- a live queue after a move of a ring
 pub still_live : (s : State) (q k : ℕ) (g : HostRing → HostRing) (queue y : HostQueue) → IsLiveQueue s q queue → slice_get (change k (λ x. record x { ring = g x.ring }) s.host.queues) q ≡ Some y → y.state ≡ Live
 still_live s q k g queue y live e = grind (arith, ring_at)
 
@@ -496,15 +496,15 @@ abbrev pub IsSubmittedAt : State → ℕ → ℕ → Type 0
 IsSubmittedAt s q cid = (r : Record) × (record_at s.host q cid ≡ Some r) × (is_submitted r.phase ≡ true)
 
 pub reaped_submitted : (s : State) (q cid : ℕ) → named (reaped s q) ≡ Some cid → IsSubmittedAt s q cid
-reaped_submitted s q cid h = go (reaped s q) refl h
+reaped_submitted s q cid h = by_reap (reaped s q) refl h
   where
     of : (st : Status) (what : Reaped) → ReapTells s q cid st what → IsSubmittedAt s q cid
     of st what t = let x = heard_of s q cid st what t in (x.1, x.2.found, x.2.submitted)
 
-    go : (what : Reaped) → reaped s q ≡ what → named what ≡ Some cid → IsSubmittedAt s q cid
-    go (events.Done c st) is n = of st (events.Done c st) (record { is = sym is; names = n; status = refl })
-    go (events.AdminDone c st dw0) is n = of st (events.AdminDone c st dw0) (record { is = sym is; names = n; status = refl })
-    go what is n = absurd cc
+    by_reap : (what : Reaped) → reaped s q ≡ what → named what ≡ Some cid → IsSubmittedAt s q cid
+    by_reap (events.Done c st) is n = of st (events.Done c st) (record { is = sym is; names = n; status = refl })
+    by_reap (events.AdminDone c st dw0) is n = of st (events.AdminDone c st dw0) (record { is = sym is; names = n; status = refl })
+    by_reap what is n = absurd cc
 
 -- Each event
 

@@ -32,8 +32,8 @@ by-if Q false x y f g = g refl
 pub absent_state : (s : State) (q : ℕ) → is_absent (sq_state s q) ≡ true → absent s q ≡ true
 absent_state s q h = grind arith
 
--- What a verdict leaves, case by case: an admin entry is refused, or does what its command says. A command more is a case more here, and in each proof that is made
--- by these cases.
+-- What a verdict leaves, case by case: an admin entry is refused, or does what its command
+-- says. One more command is one more case here, and in each proof that is made by these cases.
 pub record Manages (P : State → Type 0) (e : SubEntry) (s : State) : Type 0 where
   pub refuses : (st : Status) → is_success st ≡ false → P (decided e st 0 s)
   pub aborts : (e.opcode == ABORT) ≡ true → walks s (named_queue e) (named_command e) ≡ true
@@ -111,7 +111,7 @@ managed_by P e s m =
 
 -- The host's part of a state, and what leaves it alone.
 
--- bytes written leave in what is in
+-- writing bytes keeps in what is in
 abbrev pub in_store : Pages → List Bool
 in_store m = map is_some m
 

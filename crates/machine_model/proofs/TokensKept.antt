@@ -184,7 +184,7 @@ tokens_submission rs hs ds e un js js' ans long f names is has h =
         subst (λ (z : ℕ). gone_at (change z submission_made ds) q ≡ false) (sym (eqb-true (named_queue e) q at)) (controller_here (λ (at : ServedQueue). is_absent at.state) true submission_made q ds false (λ d. refl) x.0 x.1)
     comes q inside false at some = grind (arith, controller_other, true, unmade, deletes_sq, creates_sq, false)
 
--- The controller behind a reset: nothing waits there, and both sides fit.
+-- The controller after a reset: nothing waits there, and both sides fit.
 
 -- Nothing waits
 

@@ -97,7 +97,7 @@ unmade_sq queue = record queue { state = HalfMade; sq_pages = [] }
 abbrev pub live : HostQueue → HostQueue
 live queue = record queue { state = Live }
 
--- Pages: the free ones stand in rising order
+-- Pages: the free ones are in ascending order
 
 abbrev pub joined_in_order : ℕ → List ℕ → List ℕ → List ℕ
 joined_in_order count pages free = filter (λ p. is_among free p || is_among pages p) (pages_from 0 count)
@@ -110,7 +110,7 @@ given_back pages s = on_host (λ h. record h { free = joined_in_order (length s.
 
 -- The host
 
--- an entry behind the tail of a queue's submission ring, in its slot's bytes too
+-- an entry at the tail of a queue's submission ring, in its slot's bytes too
 abbrev pub posted : ℕ → SubEntry → State → State
 posted q entry s =
     on_ring q (next_tail s.entries)
@@ -301,11 +301,11 @@ acted e (MakeSubmission q base) s = decided e SUCCESS 0 (on_served_queue q submi
 abbrev pub managed : SubEntry → State → State
 managed e s = acted e (decision e (view_of s e)) s
 
--- the phase that the controller writes: each side tells the other's phase alike, by whether one has wrapped and the other not
+-- the phase that the controller writes: each side tells the other's phase the same way, by whether one has wrapped and the other not
 abbrev pub post_phase : State → ℕ → HostQueue → Bool
 post_phase s q queue = expected_phase queue.ring.head (post_slot s q) queue.ring.phase
 
--- a completion behind the tail of a queue's completion ring, in its slot's bytes too
+-- a completion at the tail of a queue's completion ring, in its slot's bytes too
 abbrev pub with_posted_completion : ℕ → ℕ → Status → ℕ → State → State
 with_posted_completion q cid st dw0 s =
     let completion : PostedCompletion = record { cid = cid; status = st; dw0 = dw0; sq_head = fetch_slot s q } in
@@ -326,7 +326,7 @@ after_fetch q s =
     else begun q e (taken_off q s))
     (next_rung s q) s
 
--- what a job's list makes its walk do, in the memory as it stands
+-- what a job's list makes its walk do, in the memory as it is
 abbrev pub course_of : State → Job → Course
 course_of s j = course_of_list (memory_of s.memory) j.entry.sgl1 (direction_of_entry j.entry) (need_of_entry j.entry)
 
@@ -337,7 +337,7 @@ next_unit s j = slice_get (units (course_of s j)) j.units_done
 abbrev pub next_answer : State → Job → WalkState
 next_answer s j = answer (after_units (j.units_done + 1) (course_of s j))
 
--- bytes of one page, from a place on
+-- bytes of one page, starting at an address
 abbrev pub page_bytes : Pages → ℕ → ℕ → List ℕ
 page_bytes m place count =
     option_map_or (λ bytes. take count (drop (place % 4096) bytes)) (page_at m (place / 4096)) []
@@ -364,11 +364,11 @@ abbrev pub final_status : State → Job → Status
 final_status s j =
     if j.q == 0 then unwrap_or j.verdict SUCCESS else jobs.status_after s.controller.image j.entry j.bytes j.verdict
 
--- the image behind it
+-- the image after it
 abbrev pub image_completed : Job → List ℕ → List ℕ
 image_completed j image = if j.q == 0 then image else jobs.image_after image j.entry j.bytes j.verdict
 
--- behind a successful deletion the submission queue is not there
+-- after a successful deletion the submission queue is not there
 abbrev pub deletion_done : Job → Status → State → State
 deletion_done j st s =
     if (j.q == 0) && (j.entry.opcode == DELETE_IO_SQ) && is_success st
@@ -384,7 +384,7 @@ after_complete q cid s =
     (on_controller (λ d. record d { image = image_completed j d.image }) (without_job q cid s))))
     (job_at s q cid) s
 
--- The reset: the controller comes up with its admin queue alone, and the host has the pages of its I/O queues back
+-- The reset: the controller comes up with only its admin queue, and the host has the pages of its I/O queues back
 
 -- a command of the caller's stays outstanding, and is lost where it was submitted; one that the host sends itself goes
 abbrev pub is_of_io : Work → Bool
@@ -423,7 +423,7 @@ io_pages (queue ∷ queues) = flat_map halves_of queues
 abbrev pub reset_host : ℕ → Host → Host
 reset_host count h = record { peer = h.peer; free = joined_in_order count (io_pages h.queues) h.free; queues = reset_queues h.queues; records = reset_records h.records }
 
--- the controller: no job, no entry, no completion; of its queues the first alone is there
+-- the controller: no job, no entry, no completion; of its queues only the first is there
 abbrev pub reset_controller_admin : ServedQueue
 reset_controller_admin = record { state = Running; cq_there = true; unfetched = []; rung = 0; completions = [] }
 

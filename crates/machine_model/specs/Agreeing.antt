@@ -28,7 +28,7 @@ pub record QueueFits (n : ℕ) (h : HostQueue) (d : ServedQueue) : Type 0 where
   -- a submission queue has its completion queue, and without it there is no entry
   pub half : is_absent d.state ≡ false → d.cq_there ≡ true
   pub emptied : is_absent d.state ≡ true → d.unfetched ≡ []
-  -- nothing stands in the rings of a queue that is out of service
+  -- nothing is in the rings of a queue that is out of service
   pub unfetched : in_service h.state ≡ false → d.unfetched ≡ []
   pub completions : in_service h.state ≡ false → d.completions ≡ []
   -- and rings that are being made are as they open
@@ -152,7 +152,7 @@ abbrev pub done_well : (AdminKind → Bool) → List Record → List Job → Lis
 done_well test rs js ans =
     total (λ j. one ((j.q == 0) && is_kind test rs j.entry.cid && succeeds j)) js + completed_well test rs ans
 
--- what the host knows of a queue
+-- whether the host knows a queue deleted, or gone
 abbrev pub knows_deleted_at : List HostQueue → ℕ → Bool
 knows_deleted_at hs q = option_map_or (λ h. is_known_deleted h.state) (slice_get hs q) false
 
@@ -175,7 +175,7 @@ is_live_at hs q = option_map_or (λ h. is_live h.state) (slice_get hs q) false
 abbrev pub submission_signs : List Record → List HostQueue → List ServedQueue → List Job → ℕ → ℕ
 submission_signs rs hs ds js q = one (is_live_at hs q) + (unmade (deletes_sq q) rs (waiting ds) js (admin_completions ds) + done_well (creates_sq q) rs js (admin_completions ds))
 
--- Each queue has no two tokens of its submission side, nor of its completion side, and a submission queue of which something tells that it is there is.
+-- Each queue has no two tokens of its submission side, nor of its completion side, and a submission queue is there if something tells so.
 pub record TokensGoRound (rs : List Record) (hs : List HostQueue) (ds : List ServedQueue) (js : List Job) : Type 0 where
   pub submission : (q : ℕ) → submission_tokens rs hs ds js q ≤ 1
   pub completion : (q : ℕ) → completion_tokens rs hs ds js q ≤ 1
@@ -191,7 +191,7 @@ is_out_of_service_at hs q = option_map_or (λ h. not (in_service h.state)) (slic
 abbrev pub completions_at : List ServedQueue → ℕ → List PostedCompletion
 completions_at qs q = option_map_or (λ at. at.completions) (slice_get qs q) []
 
--- how much the entries count that a queue has not fetched, by their identifiers; of a queue out of service none does
+-- how much the unfetched entries of a queue count, by their identifiers; of a queue out of service none does
 abbrev pub unfetched_count : ℕ → (ℕ → ℕ) → List HostQueue → List ServedQueue → ℕ
 unfetched_count q w hs qs = if is_out_of_service_at hs q then 0 else total (λ e. w e.cid) (unfetched_at qs q)
 

@@ -8,11 +8,11 @@ use Rattle.queue_pair.specs.{Memory.half_pages, Rings.fresh_host_ring}
 use Rattle.sgl_chain.specs.Chains.{pages_needed}
 use Rattle.machine_model.specs.{Commands.{Work, Io, Management}, Refusals.{has_sq, has_cq, is_making}, State.{Host, HostQueue, Record}}
 
--- so many pages, one after the other
+-- this many pages, one after the other
 abbrev pub LieTogether : ℕ → List ℕ → Type 0
 LieTogether count pages = (first : ℕ) × (pages ≡ pages_from first count)
 
--- the pages of a half lie together until it is given back, and there is none from then on
+-- the pages of a half lie together until it is given back, and there are none from then on
 pub record HasHalves (n : ℕ) (queue : HostQueue) : Type 0 where
   pub submission : LieTogether (if has_sq queue.state then half_pages n Submission else 0) queue.sq_pages
   pub completion : LieTogether (if has_cq queue.state then half_pages n Completion else 0) queue.cq_pages
@@ -30,7 +30,7 @@ pub record IsProvided (n segment : ℕ) (r : Record) : Type 0 where
   pub identifier : r.cid < n - 1
   pub pages : HasPagesFor segment r.work r.data_pages r.chain_pages
 
--- the pages of a half, one after the other from an address on
+-- the pages of a half, one after the other, starting at an address
 pub record LieAt (n : ℕ) (half : Half) (base : ℕ) (pages : List ℕ) : Type 0 where
   pub first : ℕ
   pub begins : base ≡ 4096 * first

@@ -24,7 +24,7 @@ claims_of_record r = claimed (Command r.q r.cid Data) r.data_pages ++ claimed (C
 abbrev pub claims_of : Host → List (ℕ × Owner)
 claims_of h = claimed Free h.free ++ claims_of_queues 0 h.queues ++ flat_map claims_of_record h.records
 
--- each page of the pool stands in exactly one claim, and no other page does
+-- each page of the pool is in exactly one claim, and no other page does
 abbrev pub HasOneOwner : ℕ → Host → Type 0
 HasOneOwner count h = (p : ℕ) → times p (map (λ claim. claim.0) (claims_of h)) ≡ (if nat_lt p count then 1 else 0)
 
@@ -73,7 +73,7 @@ abbrev pub NewQueuesAreBare : Host → Type 0
 NewQueuesAreBare h =
     (q : ℕ) → option_map_or (λ queue. is_making queue.state) (slice_get h.queues q) false ≡ true → length (outstanding_on h q) ≡ 0
 
--- a queue has no page of a half that the host has not
+-- a queue has no page of a half that the host does not have
 pub record HasNoOtherPages (queue : HostQueue) : Type 0 where
   pub submission : has_sq queue.state ≡ false → queue.sq_pages ≡ []
   pub completion : has_cq queue.state ≡ false → queue.cq_pages ≡ []

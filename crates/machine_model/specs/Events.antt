@@ -28,7 +28,7 @@ pub data Event : Type 0 where
   Walk : (q cid : ℕ) → Event
   Complete : (q cid : ℕ) → Event
   Forge : (q slot : ℕ) → List ℕ → Event
-  -- the controller is reset, and comes up again with its admin queue alone
+  -- the controller is reset, and comes up again with only its admin queue
   Reset : Event
 
 pub data Reply : Type 0 where

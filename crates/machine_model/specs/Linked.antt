@@ -16,7 +16,7 @@ pub record IsLinked (s : State) : Type 0 where
   pub completion_whole : (q : ℕ) (queue : HostQueue) → host_queue s q ≡ Some queue → cq_there s q ≡ true → length queue.cq_pages ≡ half_pages s.entries Completion
   -- the host stands in its rings
   pub inside : (q : ℕ) (queue : HostQueue) → host_queue s q ≡ Some queue → IsInRing s.entries queue.ring
-  -- a queue that the controller has stands at the host, and has its completion half
+  -- a queue that the controller has is at the host, and has its completion half
   pub known : (q : ℕ) → absent s q ≡ false → is_some (host_queue s q) ≡ true
   pub completion_stays : (q : ℕ) → absent s q ≡ false → cq_there s q ≡ true
   -- so does one that has a job

@@ -31,7 +31,7 @@ is_config pages queues n s =
 abbrev pub pages_of_queues : ℕ → ℕ → ℕ
 pages_of_queues queues n = (queues + 1) * (half_pages n Submission + half_pages n Completion)
 
--- want of memory left aside
+-- lack of memory aside
 abbrev pub open_refusal : ℕ → ℕ → ℕ → ℕ → Option OpenRefusal
 open_refusal pages queues n s =
     first_passing (
@@ -39,7 +39,7 @@ open_refusal pages queues n s =
     ∷ (nat_lt pages (pages_of_queues queues n), NoPages (pages_of_queues queues n) pages)
     ∷ [])
 
--- a world opens: its limits are kept, and there are pages enough for its queues
+-- a world opens: its limits are kept, and there are enough pages for its queues
 abbrev pub Opens : ℕ → ℕ → ℕ → ℕ → Type 0
 Opens pages queues n s = open_refusal pages queues n s ≡ None
 

@@ -7,20 +7,20 @@ use Rattle.sgl_descriptor.specs.{Spelling.descriptor_of, declared.{Descriptor.De
 use Rattle.sgl_chain.specs.Spells.{Spells}
 use Rattle.controller_walk.specs.{Laws.{ReadsWithin, MovesOutside}, Units.{Act, Stays, Reads, Moves, Course, Closes, Does, touched, units}}
 
--- of a memory only the bytes at some places
+-- only the bytes of a memory at some addresses
 abbrev pub only : (ℕ → Bool) → Memory → Memory
 only at m place = if at place then m place else None
 
--- the places of some pages
+-- the addresses of some pages
 abbrev pub on_pages : List ℕ → ℕ → Bool
 on_pages pages place = is_among pages (page_of place)
 
--- each byte of a part that has a place lies at some places
+-- each byte of a part that has an address lies at some addresses
 abbrev pub LiesIn : (ℕ → Bool) → Part → Type 0
 LiesIn at (Data addr len) = (k : ℕ) → k < len → at (addr + k) ≡ true
 LiesIn at (Bucket len) = Unit {0}
 
--- A unit reads a descriptor at the first places, or moves one byte or more at the second places, all in one page.
+-- A unit reads a descriptor at the first addresses, or moves one byte or more at the second addresses, all in one page.
 abbrev pub ActIn : (chain own : ℕ → Bool) → Act → Type 0
 ActIn chain own Stays = Unit {0}
 ActIn chain own (Reads place) = (k : ℕ) → k < 16 → chain (place + k) ≡ true

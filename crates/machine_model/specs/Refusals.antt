@@ -89,7 +89,7 @@ is_making HalfMade = true
 is_making MakingSq = true
 is_making state = false
 
--- whether it waits for the end of a deletion or a creation, and whether it has its completion half alone
+-- whether its deletion, noted or not, or its creation is under way, and whether it has its completion half alone
 abbrev pub is_changing : HostState → Bool
 is_changing (Deleting noted) = true
 is_changing MakingCq = true
@@ -191,7 +191,7 @@ cq_deletion_outstanding s q = list_any (λ r. deletes_cq_of q r.work) s.host.rec
 
 -- Slots
 
--- the page of slot k of consecutive slots of so many bytes
+-- the page of slot k of consecutive slots of this many bytes
 abbrev pub slot_page : List ℕ → ℕ → ℕ → ℕ
 slot_page pages size k = slice_index pages (k * size / 4096)
 
@@ -299,7 +299,7 @@ reserve_causes s q r bad =
     ∷ (nat_lt (length s.host.free) (pages_wanted s r), events.NoPages (pages_wanted s r) (length s.host.free))
     ∷ []
 
--- what an event may be refused for, in the order of the checks, want of memory left aside; exact for the controller's events only where nothing was forged
+-- what an event may be refused for, in the order of the checks, lack of memory aside; exact for the controller's events only where nothing was forged
 abbrev pub causes : State → Event → List (Bool × Refusal)
 causes s (events.Reserve q r) = reserve_causes s q r (fault_of r.kind r.block_size r.blocks r.pieces)
 causes s (events.Submit d) =

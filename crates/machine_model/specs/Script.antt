@@ -15,7 +15,7 @@ use Rattle.page_memory.specs.Pages.{page_at}
 use Rattle.entry_codec.specs.declared.status.Status.{Status}
 use Rattle.machine_model.specs.Events as events
 
--- A script's lines: a command is reserved of namespace 1 and without flags, or as a request asks for it
+-- A script's lines: a command is reserved for namespace 1 and without flags, or as a request asks for it
 
 pub data Line : Type 0 where
   reserve : (q : ℕ) → (kind : Kind) → (slba blocks : ℕ) → List Piece → Line
@@ -228,7 +228,7 @@ made_by t (l ∷ ls) = let step = line t l in option_map_or (λ m. m ∷ []) ste
 abbrev pub all_allowed : List Made → Bool
 all_allowed made = list_all (λ m. stays_allowed m.before m.reply && stays_own m.before m.event m.reply) made
 
--- a command carried from a draft to its collection, in so many walk steps
+-- a command carried from a draft to its collection, in this many walk steps
 abbrev pub walks : ℕ → ℕ → ℕ → List Line
 walks zero q cid = []
 walks (suc n) q cid = walk q cid ∷ walks n q cid

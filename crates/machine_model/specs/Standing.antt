@@ -29,7 +29,7 @@ pub record HasEntry (queues : List ServedQueue) (jobs : List Job) (q cid : ℕ) 
   pub unfetched : AllByRecursion (λ e. e.cid ≡ cid → e ≡ entry) (unfetched_at queues q)
   pub fetched : AllByRecursion (λ j. j.q ≡ q → j.entry.cid ≡ cid → j.entry ≡ entry) jobs
 
--- The chain pages of a command with a list spell its joined parts, whatever stands in other pages, from the descriptor of its entry.
+-- The chain pages of a command with a list spell its joined parts, whatever is in other pages, from the descriptor of its entry.
 pub record ListStands (m : Pages) (queues : List ServedQueue) (jobs : List Job) (r : Record) (request : Request) : Type 0 where
   pub first : Descriptor
   pub read : descriptor_of (spelling first) ≡ Some first

@@ -11,7 +11,8 @@ pub use Rattle.machine_model.specs.declared.words.Phase.TheVariants.{Drafted, Su
 pub use Rattle.machine_model.specs.declared.words.HostState.{HostState}
 pub use Rattle.machine_model.specs.declared.words.HostState.TheVariants.{Live, Deleting, Retired, Gone, MakingCq, HalfMade, MakingSq}
 
--- an outstanding command: once it has ended, with its status and what its completion hinted at. One that the host sends itself owns no page and is submitted from its sending on
+-- an outstanding command: once it has ended, with its status and the hints of its
+-- completion. One that the host sends itself owns no page and is submitted once it is sent
 pub record Record : Type 0 where
   pub q : ℕ
   pub cid : ℕ
@@ -22,7 +23,7 @@ pub record Record : Type 0 where
   pub status : Option Status
   pub hints : Hints
 
--- a completion that was posted and not reaped: it hints at nothing
+-- a completion that was posted and not reaped: it has no hints
 pub record PostedCompletion : Type 0 where
   pub cid : ℕ
   pub status : Status
@@ -46,7 +47,7 @@ pub record HostQueue : Type 0 where
   pub sq_pages : List ℕ
   pub cq_pages : List ℕ
 
--- what stands at the controller for a queue
+-- what the controller has for a queue
 pub record ServedQueue : Type 0 where
   pub state : SqState
   pub cq_there : Bool

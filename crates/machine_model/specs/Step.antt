@@ -83,7 +83,7 @@ IsController (events.Walk q cid) = true
 IsController (events.Complete q cid) = true
 IsController e = false
 
--- the calls that may want memory
+-- the calls that may need memory
 abbrev pub allocates : Event → Bool
 allocates (events.Reserve q r) = true
 allocates (events.Collect q cid) = true
@@ -154,7 +154,7 @@ MayRefuse (events.Complete q cid) events.Full touched = touched ≡ []
 MayRefuse (events.Complete q cid) events.SlotOut touched = touched ≡ []
 MayRefuse e why touched = ⊥
 
--- a refusal is the first cause that holds; want of memory is told only by calls that allocate, where no other cause holds
+-- a refusal is the first cause that holds; lack of memory is reported only by calls that allocate, where no other cause holds
 abbrev pub Refuses : State → Event → Refusal → List ℕ → Type 0
 Refuses s e events.Memory touched = IsTrue (allocates e) × (refusal_of s e ≡ None) × (touched ≡ touched_by_refusal s e events.Memory)
 Refuses s e why touched = (refusal_of s e ≡ Some why) × (touched ≡ touched_by_refusal s e why)
@@ -175,7 +175,7 @@ pub record HostPart : Type 0 where
 abbrev pub host_part : State → HostPart
 host_part s = record { entries = s.entries; segment = s.segment; in_store = map is_some s.memory; host = s.host; trusted = s.trusted }
 
--- whatever was forged, the image keeps its length, and each queue its place at the controller
+-- whatever was forged, the image keeps its length, and each queue its position at the controller
 pub record KeepsController (old new : State) : Type 0 where
   pub image : length new.controller.image ≡ length old.controller.image
   pub queues : length new.controller.queues ≡ length old.controller.queues

@@ -1,4 +1,4 @@
--- Trusted runs: steps from an opening, as they were made, of which none is an accepted forgery.
+-- Trusted runs: steps from an opening, as they were made, none of which is an accepted forgery.
 use Rattle.std.specs.{List.list_any, Prelude.{◌≡◌, ℕ, Bool, true, false, not, IsTrue, List, [], ◌∷◌, ◌++◌}}
 use Rattle.machine_model.specs.{Events.{Event, Reply}, Image.{Made, submitted_by}, Opening.{opening, Opens}, State.State, Step.{Step, resets}}
 use Rattle.block_image.specs.Blocks.{IsImage}

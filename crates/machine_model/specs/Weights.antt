@@ -1,4 +1,4 @@
--- How often something stands in a list, as sums of what its elements weigh.
+-- How often something occurs in a list, as sums of what its elements weigh.
 use Rattle.std.specs.Prelude.{ℕ, ◌+◌, ◌==◌, ◌&&◌, Bool, List, [], ◌∷◌, if◌then◌else◌}
 use Rattle.machine_model.specs.{Refusals.is_submitted, State.{Record, is_at}}
 

@@ -33,7 +33,7 @@ two_segments_bytes =
 abbrev pub two_segments_shown : List ℕ
 two_segments_shown = let t = left_by small_segments two_segments in shown t 2 24 16 ++ shown t 7 0 32 ++ shown t 8 0 32
 
--- a Bucket behind data: it counts for a Read and not for a Write
+-- a Bucket after data: it counts for a Read and not for a Write
 abbrev pub bucket_request : Kind → (blocks : ℕ) → Line
 bucket_request kind blocks = reserve 1 kind 0 blocks (Data 0 512 ∷ Bucket 512 ∷ [])
 
@@ -59,7 +59,7 @@ bucket_bytes =
 abbrev pub bucket_shown : List ℕ
 bucket_shown = let t = left_by ordinary (bucket_request Read 2 ∷ build 1 0 ∷ submit 1 0 ∷ []) in shown t 2 24 16 ++ shown t 5 0 32
 
--- four whole pages, which are one descriptor together
+-- four whole pages, which together are one descriptor
 abbrev pub four_pages : List Line
 four_pages = reserve 1 Read 0 32 (Data 0 4096 ∷ Data 0 4096 ∷ Data 0 4096 ∷ Data 0 4096 ∷ []) ∷ carried 5 1 0
 
@@ -82,7 +82,7 @@ one_block = reserve 1 Read 0 1 (Data 0 512 ∷ [])
 abbrev pub two_pages : Line
 two_pages = reserve 1 Read 0 16 (Data 0 4096 ∷ Data 0 4096 ∷ [])
 
--- the lowest free page stands alone, so two pages are taken behind it
+-- the lowest free page stands alone, so two pages are taken after it
 abbrev pub run_behind_a_hole : List Line
 run_behind_a_hole = one_block ∷ one_block ∷ one_block ∷ cancel 1 1 ∷ two_pages ∷ build 1 1 ∷ submit 1 1 ∷ []
 
@@ -95,7 +95,7 @@ run_behind_a_hole_bytes = 0 ∷ 112 ∷ 0 ∷ 0 ∷ 0 ∷ 0 ∷ 0 ∷ 0 ∷ 0 �
 abbrev pub run_behind_a_hole_shown : List ℕ
 run_behind_a_hole_shown = shown (left_by ordinary run_behind_a_hole) 2 24 16
 
--- two free pages that are no run want a chain page too; once there is a run, two are enough
+-- two free pages that are no run need a chain page too; once there is a run, two are enough
 abbrev pub nine_pages : Table
 nine_pages = defaults 9 1 8 256
 

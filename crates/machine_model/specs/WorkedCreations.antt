@@ -14,7 +14,7 @@ managed l = l ∷ ring 0 ∷ fetch 0 ∷ complete 0 0 ∷ reap 0 ∷ []
 abbrev pub managed_said : List Said
 managed_said = sent 0 ∷ ok ∷ fetched 0 (0 ∷ []) ∷ completed (1 ∷ []) ∷ reaps (events.AdminDone 0 SUCCESS 0) ∷ []
 
--- behind a deletion queue 1 is gone; it is made again, and carries a Read
+-- after a deletion queue 1 is gone; it is made again, and carries a Read
 abbrev pub creation_with : (vector : Option ℕ) → List Line
 creation_with vector = managed (create_cq 1 vector) ++ managed (create_sq 1) ++ block 1 Read ∷ carried 2 1 0 ++ create_cq 1 vector ∷ []
 
@@ -28,7 +28,7 @@ creation_said =
     ++ reserved 1 0 (4 ∷ []) [] ∷ ok ∷ ok ∷ ok ∷ fetched 0 (3 ∷ []) ∷ walked More [] ∷ walked End (4 ∷ []) ∷ completed (2 ∷ []) ∷ reaps (events.Done 0 SUCCESS) ∷ held SUCCESS
     ∷ refused events.WrongState ∷ []
 
--- the bytes of the two entries, in the slots where the tail of queue 0 stands
+-- the bytes of the two entries, in the slots at the tail of queue 0
 abbrev pub admin_tail : Table → ℕ
 admin_tail t = option_map_or (λ queue. queue.ring.tail) (slice_get t.world.host.queues 0) 0
 

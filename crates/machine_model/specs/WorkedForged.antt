@@ -65,7 +65,7 @@ forged_hinting sqhd sqid cid = replicate 8 0 ++ sqhd ∷ 0 ∷ sqid ∷ 0 ∷ ci
 abbrev pub each_hint : Hints
 each_hint = record { retry_delay = 2; more = true; do_not_retry = true }
 
--- what the finished commands that are kept were hinted at
+-- the hints of the finished commands that are kept
 abbrev pub hints_told : Table → List Hints
 hints_told t = map (λ f. f.hints) t.finished
 
@@ -79,7 +79,7 @@ ended_by_controller = block 1 ∷ build 1 0 ∷ submit 1 0 ∷ ring 1 ∷ fetch 
 abbrev pub ended_by_reset : List Line
 ended_by_reset = block 1 ∷ build 1 0 ∷ submit 1 0 ∷ ring 1 ∷ forge 1 0 (forged_hinting 1 1 0) ∷ reset ∷ collect 1 0 ∷ []
 
--- a forged success of a deletion: a queue is retired of which the controller still fetches. Up to the fetch, which no rule decides
+-- a forged success of a deletion: a queue is retired from which the controller still fetches. Up to the fetch, which no rule decides
 abbrev pub two_queues : Table
 two_queues = defaults 16 2 4 256
 

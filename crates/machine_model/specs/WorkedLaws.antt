@@ -39,7 +39,7 @@ built_of_three = draft_of 1 0 (left_by small_segments (take 2 two_segments)).dra
 abbrev pub IsBuiltOfThree : Type 0
 IsBuiltOfThree = MatchOption built_of_three ⊥ IsDraft
 
--- and the segments stand in the memory that its run leaves, so that the entry's descriptor spells its parts
+-- and the segments are in the memory that its run leaves, so that the entry's descriptor spells its parts
 abbrev pub SegmentsNamed : Type 0
 SegmentsNamed = Spells (byte_at (left_by small_segments two_segments).world.memory) (Segment 28672 32) three_parts
 
@@ -111,7 +111,7 @@ anew_said =
     ∷ walked More (10 ∷ []) ∷ walked More (6 ∷ []) ∷ walked More (10 ∷ []) ∷ walked More (7 ∷ []) ∷ walked More (10 ∷ []) ∷ walked End (8 ∷ [])
     ∷ refused events.Nothing ∷ []
 
--- A Read of two blocks that was never fetched, behind one of a single block with its identifier, which was: the draft as it was
+-- A Read of two blocks that was never fetched, after one of a single block with its identifier, which was: the draft as it was
 -- submitted before that fetch isn't its own. Its queue is deleted, and it is collected as its own draft left it.
 abbrev pub never_fetched : List Line
 never_fetched =
@@ -122,7 +122,7 @@ never_fetched =
 abbrev pub one_block : Table
 one_block = table (opening 8 1 4 256 (replicate 512 0))
 
--- how many blocks the latest draft of its identifier is for, of those that so many lines submitted
+-- how many blocks the latest draft of its identifier is for, of those that this many lines submitted
 abbrev pub blocks_drafted : ℕ → List ℕ
 blocks_drafted lines =
     option_map_or (λ d. d.request.blocks ∷ []) (draft_of 1 0 (drafts_of (made_by one_block (take lines never_fetched)))) []

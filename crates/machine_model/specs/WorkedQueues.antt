@@ -62,7 +62,7 @@ two_compares_said =
     reserved 1 0 (4 ∷ []) [] ∷ ok ∷ ok ∷ ok ∷ ok ∷ fetched 0 (2 ∷ []) ∷ walked More [] ∷ walked End (4 ∷ []) ∷ completed (3 ∷ []) ∷ reaps (events.Done 0 SUCCESS) ∷ held SUCCESS ∷ ok
     ∷ reserved 1 0 (4 ∷ []) [] ∷ ok ∷ ok ∷ ok ∷ ok ∷ fetched 0 (2 ∷ []) ∷ walked More [] ∷ walked End (4 ∷ []) ∷ completed (3 ∷ []) ∷ reaps (events.Done 0 COMPARE_FAILURE) ∷ held COMPARE_FAILURE ∷ []
 
--- a Read of two blocks, of which the second is past the image: it has its verdict at the fetch
+-- a Read of two blocks, the second of which is past the image: it has its verdict at the fetch
 abbrev pub read_past_image : List Line
 read_past_image =
     reserve 1 Read 63 2 (Data 0 1024 ∷ []) ∷ build 1 0 ∷ submit 1 0 ∷ ring 1 ∷ fetch 1 ∷ walk 1 0 ∷ complete 1 0 ∷ reap 1 ∷ collect 1 0 ∷ release 1 0
@@ -73,7 +73,7 @@ read_past_image_said =
     reserved 1 0 (4 ∷ []) [] ∷ ok ∷ ok ∷ ok ∷ fetched 0 (2 ∷ []) ∷ refused events.Nothing ∷ completed (3 ∷ []) ∷ reaps (events.Done 0 LBA_OUT_OF_RANGE) ∷ held LBA_OUT_OF_RANGE ∷ ok
     ∷ reserved 1 0 (4 ∷ []) [] ∷ []
 
--- a Read of namespace 2, with both flags and past the image: the namespace is told first
+-- a Read of namespace 2, with both flags and past the image: the namespace is reported first
 abbrev pub read_of_namespace_2 : List Line
 read_of_namespace_2 =
     ask 1 (record { kind = Read; nsid = 2; flags = record { force_unit_access = true; limited_retry = true }; slba = 63; block_size = Bytes512; blocks = 2; pieces = Data 0 1024 ∷ [] })
@@ -83,7 +83,7 @@ abbrev pub read_of_namespace_2_said : List Said
 read_of_namespace_2_said =
     reserved 1 0 (4 ∷ []) [] ∷ ok ∷ ok ∷ ok ∷ fetched 0 (2 ∷ []) ∷ refused events.Nothing ∷ completed (3 ∷ []) ∷ reaps (events.Done 0 INVALID_NAMESPACE) ∷ held INVALID_NAMESPACE ∷ []
 
--- a Read of one block of 4,096 bytes, good in itself: the host of a world takes no such blocks. A fault of the request is told first, want of identifiers after
+-- a Read of one block of 4,096 bytes, good in itself: the host of a world takes no such blocks. A fault of the request is reported first, lack of identifiers after
 abbrev pub large_block : Request
 large_block = record { kind = Read; nsid = 1; flags = NONE; slba = 0; block_size = Bytes4096; blocks = 1; pieces = Data 0 4096 ∷ [] }
 
@@ -96,7 +96,7 @@ other_blocks_said =
     reserved 1 0 (4 ∷ []) [] ∷ refused events.OtherBlocks ∷ reserved 1 1 (5 ∷ []) [] ∷ reserved 1 2 (6 ∷ []) []
     ∷ refused events.OtherBlocks ∷ refused (events.Bad LengthMismatch) ∷ refused events.NoIdentifier ∷ []
 
--- the counts, by a run's end
+-- the counts, at a run's end
 abbrev pub counts_after : List Line → Counts
 counts_after lines = counts_of (left_by ordinary lines).world.host
 
@@ -113,7 +113,7 @@ stranger =
     let t = left_by ordinary (block Read 0 ∷ build 1 0 ∷ []) in
     played (record t { world = ordinary.world }) (submit 1 0 ∷ []) ++ played t (submit 1 0 ∷ [])
 
--- not built, and a request that is refused before the identifiers are looked at
+-- not built, and a request that is refused before the identifiers are checked
 abbrev pub refusals_in_order : List Line
 refusals_in_order = block Read 0 ∷ submit 1 0 ∷ block Read 0 ∷ block Read 0 ∷ reserve 1 Read 0 1 (Data 0 511 ∷ []) ∷ reserve 2 Read 0 1 [] ∷ collect 1 0 ∷ collect 0 0 ∷ walk 1 0 ∷ complete 1 0 ∷ fetch 7 ∷ ring 7 ∷ abort 1 0 ∷ abort 0 0 ∷ retire 1 ∷ []
 

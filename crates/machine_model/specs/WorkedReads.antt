@@ -30,7 +30,7 @@ first_write_said =
     ∷ reserved 1 0 (4 ∷ []) [] ∷ ok ∷ ok ∷ ok ∷ fetched 0 (2 ∷ []) ∷ walked More [] ∷ walked End (4 ∷ []) ∷ completed (3 ∷ [])
     ∷ reaps (events.Done 0 SUCCESS) ∷ held SUCCESS ∷ gathered ((171, 1) ∷ (205, 1) ∷ (0, 510) ∷ []) ∷ []
 
--- one byte of the block is moved, and none behind it
+-- one byte of the block is moved, and none after it
 abbrev pub stopped_read : List Line
 stopped_read =
     reserve 1 Write 5 1 (Data 0 512 ∷ []) ∷ fill 1 0 (171 ∷ 205 ∷ []) ∷ carried 2 1 0 ++ release 1 0

@@ -22,7 +22,7 @@ one_of_each_said =
     ∷ reserved 1 2 (8 ∷ []) [] ∷ ok ∷ ok ∷ ok ∷ fetched 2 (2 ∷ []) ∷ walked More []
     ∷ reserved 2 0 (9 ∷ []) [] ∷ reserved 2 1 (10 ∷ []) [] ∷ ok ∷ ok ∷ ok ∷ sent 0 ∷ ok ∷ []
 
--- nothing is at the controller any more and no I/O queue is in service; the commands that were submitted are lost, and the others stand as they stood
+-- nothing is at the controller any more and no I/O queue is in service; the commands that were submitted are lost, and the others are as they were
 abbrev pub after_all : List Line
 after_all =
     reset ∷ fetch 0 ∷ fetch 1 ∷ walk 1 2 ∷ complete 1 2 ∷ reap 0 ∷ reap 1 ∷ block 1 Read ∷ build 2 0 ∷ submit 2 0 ∷ create_cq 1 None
@@ -41,7 +41,7 @@ reset_run = one_of_each ++ after_all ++ creation
 abbrev pub reset_run_said : List Said
 reset_run_said = one_of_each_said ++ after_all_said ++ creation_said
 
--- a forged entry completes a command that is a job, whose walk is not done: behind a reset the machine is trusted again
+-- a forged entry completes a command that is a job, whose walk is not done: after a reset the machine is trusted again
 abbrev pub forged_and_reset : List Line
 forged_and_reset =
     block 1 Read ∷ build 1 0 ∷ submit 1 0 ∷ ring 1 ∷ fetch 1 ∷ walk 1 0 ∷ forge 1 0 (forged 1 1 0) ∷ reap 1 ∷ reset ∷ walk 1 0 ∷ collect 1 0 ∷ release 1 0 ∷ creation

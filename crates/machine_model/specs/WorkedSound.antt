@@ -48,7 +48,7 @@ turn =
 abbrev pub turns : List Line
 turns = turn ++ turn ++ turn
 
--- in the second turn one completion stands in the last slot and one in the first, written before the host has come round
+-- in the second turn one completion is in the last slot and one in the first, written before the host has come round
 abbrev pub two_turns : List Line
 two_turns = turn ++ turn
 

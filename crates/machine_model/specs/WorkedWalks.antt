@@ -23,7 +23,7 @@ outcomes (Does a rest) = (answer rest, touched a) ∷ outcomes rest
 abbrev pub walk_of : Pages → List ℕ → ℕ → List (WalkState × List ℕ)
 walk_of m sgl1 need = outcomes (course_of_list (memory_of m) sgl1 Destination need)
 
--- the same where a list has so many descriptors behind the first
+-- the same where a list has this many descriptors after the first
 abbrev pub short_walk_of : ℕ → Pages → List ℕ → ℕ → List (WalkState × List ℕ)
 short_walk_of more m sgl1 need =
     outcomes (Does Stays (after_read (memory_of m) Destination need entry_cursor need (rest_of more (memory_of m) Destination need) (descriptor_of sgl1)))
@@ -60,16 +60,16 @@ pool_without_2 m = slice_set m 2 None
 
 abbrev pub orders : List (List (WalkState × List ℕ))
 orders =
-    -- d before e and f: a bad link in the first place of a last segment
+    -- d before e and f: a bad link in the first position of a last segment
     walk_of (two_at (Segment 3 7) (DataBlock 8192 512)) (spelling (LastSegment 4096 32)) 512
-    -- e before f: a bad link in the first place of a linked segment
+    -- e before f: a bad link in the first position of a linked segment
     ∷ walk_of (two_at (Segment 3 7) (Segment 8192 16)) (spelling (Segment 4096 32)) 512
-    -- f alone: length zero, and an address no multiple of 8
+    -- f alone: length zero, and an address that is no multiple of 8
     ∷ walk_of store (spelling (Segment 4096 0)) 512
     ∷ walk_of store (spelling (LastSegment 4100 16)) 512
-    -- g, whatever the length: a block longer than what is wanted in the last place of a linked segment
+    -- g, whatever the length: a block longer than what is wanted in the last position of a linked segment
     ∷ walk_of (store_at (DataBlock 8192 9999)) (spelling (Segment 4096 16)) 512
-    -- i before j, by the whole length: a block that ends above 2^64 behind what is wanted
+    -- i before j, by the whole length: a block that ends above 2^64 after what is wanted
     ∷ walk_of store (spelling (DataBlock 18446744073709551104 513)) 512
     -- i: a link that ends above 2^64, and one that ends there and is unreadable
     ∷ walk_of store (spelling (LastSegment 18446744073709551608 16)) 512
@@ -81,7 +81,7 @@ orders =
     -- a bucket of a read counts, as far as it is wanted
     ∷ walk_of store (spelling (BitBucket 512)) 512
     ∷ walk_of store (spelling (BitBucket 513)) 512
-    -- a zero-length block before the wanted bytes, and one behind them
+    -- a zero-length block before the wanted bytes, and one after them
     ∷ walk_of (two_at (DataBlock 3 0) (DataBlock 8192 512)) (spelling (LastSegment 4096 32)) 512
     ∷ walk_of (two_at (DataBlock 8192 512) (DataBlock 3 0)) (spelling (LastSegment 4096 32)) 512
     ∷ []
@@ -104,7 +104,7 @@ orders_said =
     ∷ ((More, []) ∷ (More, 1 ∷ []) ∷ (End, 2 ∷ []) ∷ [])
     ∷ []
 
--- lists that are longer than their data: the front of a block of 513 in one page, and of one of 9,999 in two; behind the wanted bytes a bucket, a link
+-- lists that are longer than their data: the first part of a block of 513 in one page, and of one of 9,999 in two; after the wanted bytes a bucket, a link
 -- that would be a fault, and a descriptor on a page that is out
 abbrev pub longer : List (List (WalkState × List ℕ))
 longer =

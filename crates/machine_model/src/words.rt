@@ -11,7 +11,7 @@ use io_commands::{Request, RequestFault};
 pub enum Phase {
     /// Reserved: its pages are in its draft.
     Drafted,
-    /// Its entry stands in the submission queue, or behind it.
+    /// Its entry is in the submission queue, or past it.
     Submitted,
     /// Its status is known.
     Held,
@@ -60,7 +60,7 @@ impl HostState {
 /// Whom a host speaks to.
 #[derive(Clone, Copy, Debug, PartialEq, Eq)]
 pub enum Peer {
-    /// The modelled controller: it has blocks of 512 bytes alone, and no admin commands but those of queues and Abort.
+    /// The modelled controller: it has only blocks of 512 bytes, and no admin commands except those of queues and Abort.
     Modelled,
     /// A device: it may have blocks of each size and any admin command.
     Device,
@@ -117,7 +117,7 @@ pub enum Refusal {
     NotDrained,
     /// A command of the queue is outstanding.
     Outstanding,
-    /// No run of so many consecutive pages is free.
+    /// No run of that many consecutive pages is free.
     NoRun {
         /// How many are needed.
         need: u32,
@@ -161,7 +161,7 @@ pub enum OpenRefusal {
 pub enum RejectedFor {
     /// Its submission queue identifier is another queue's.
     WrongQueue,
-    /// Its submission head lies outside the known head to the tail.
+    /// Its submission head lies outside the range from known head to tail.
     BadHead,
     /// No submitted command has its identifier.
     UnknownId,
@@ -185,7 +185,7 @@ pub enum Reaped {
         cid: u16,
         /// How it ended.
         status: Status,
-        /// The command specific double word.
+        /// The command specific Dword.
         dw0: u32,
     },
     /// A completion of no command; it was consumed.

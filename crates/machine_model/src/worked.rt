@@ -30,7 +30,7 @@ pub fn worked_reads()
     ensures stopped_read { played ordinary stopped_read ≡ stopped_read_said }
 {}
 
-/// Chains: two segments, a Bit Bucket, four whole pages that join. Their descriptors stand in memory byte for byte.
+/// Chains: two segments, a Bit Bucket, four whole pages that join. Their descriptors are in memory byte for byte.
 pub fn worked_chains()
     ensures two_segments { played small_segments chains.two_segments ≡ chains.two_segments_said }
     ensures two_segments_bytes { chains.two_segments_shown ≡ chains.two_segments_bytes }
@@ -40,7 +40,7 @@ pub fn worked_chains()
     ensures four_pages_bytes { chains.four_pages_shown ≡ chains.four_pages_bytes }
 {}
 
-/// Where pages are placed: a run behind a page that stands alone, and pages that are no run, which want a chain page.
+/// Where pages are placed: a run after a page that stands alone, and pages that are no run, which need a chain page.
 pub fn worked_placements()
     ensures run_behind_a_hole { played ordinary chains.run_behind_a_hole ≡ chains.run_behind_a_hole_said }
     ensures run_behind_a_hole_bytes { chains.run_behind_a_hole_shown ≡ chains.run_behind_a_hole_bytes }
@@ -119,17 +119,15 @@ pub fn worked_forged()
     ensures forged_deletion { played forged.two_queues forged.forged_deletion ≡ forged.forged_deletion_said }
 {}
 
-/// What a command's completion hinted at is told with it, whoever wrote the completion; the controller hints at nothing, and a
-/// reset neither.
+/// The hints of a command's completion are reported with it, whoever wrote the completion; the controller gives no hints, nor does a reset.
 pub fn worked_hints()
     ensures forged { forged.hints_told (left_by ordinary forged.ended_by_hinting) ≡ (forged.each_hint ∷ []) }
     ensures completed { forged.hints_told (left_by ordinary forged.ended_by_controller) ≡ (NONE ∷ []) }
     ensures reset { forged.hints_told (left_by ordinary forged.ended_by_reset) ≡ (NONE ∷ []) }
 {}
 
-/// A reset: with one command of each phase, a job, and entries that are not fetched; and behind a forged entry, where it makes
-/// the machine trusted again. A queue is made again behind it, the pages of all I/O queues are free, and each page has one owner
-/// in each state before a step.
+/// A reset: with one command of each phase, a job, and entries that are not fetched; and after a forged entry, where it makes the machine trusted
+/// again. A queue is made again after it, the pages of all I/O queues are free, and each page has one owner in each state before a step.
 pub fn worked_resets()
     ensures reset_run { played forged.two_queues resets.reset_run ≡ resets.reset_run_said }
     ensures free_before_reset { free_of (left_by forged.two_queues resets.one_of_each) ≡ 5 }
@@ -156,7 +154,7 @@ pub fn worked_touches()
     ensures half_made_refusals { all_allowed (made_by (left_by ordinary admin.queue_deletion) creations.half_made_refusals) ≡ true }
 {}
 
-/// What a walk may answer: the page that its unit touches, which it can't leave out.
+/// What a walk may answer: the page that its unit touches, which it can't omit.
 pub fn worked_answers()
     ensures touches { laws.SecondStepTouches (7 ∷ []) }
     ensures touches_something { laws.SecondStepTouches [] → ⊥ }
@@ -186,7 +184,7 @@ pub fn worked_drafts()
     ensures anew { played laws.made_anew laws.anew_run ≡ laws.anew_said }
 {}
 
-/// A Read of two blocks that was never fetched, behind one of a single block with its identifier, which was: the latest draft
+/// A Read of two blocks that was never fetched, after one of a single block with its identifier, which was: the latest draft
 /// before that fetch is not its own.
 pub fn worked_never_fetched()
     ensures before_the_fetch { laws.blocks_drafted 4 ≡ (1 ∷ []) }

@@ -1,4 +1,4 @@
--- What was gathered to the front of a buffer is what the step and the call of that name answer.
+-- What was gathered to the start of a buffer is what the step and the call of that name answer.
 use Rattle.std.proofs.Common.{◌≡◌, ◌++◌, ℕ, List, Option, Ok, Err, inr, refl, sym, ap, ◌∙◌, subst, drop, length}
 use Rattle.io_commands.specs.Values.{FinishedContents, gathered_from}
 use Rattle.machine_model.specs.Script.{Table, finished_at}

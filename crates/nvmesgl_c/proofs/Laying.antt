@@ -1,10 +1,10 @@
--- Runs are laid into the front of a buffer, one after the other.
+-- Runs are laid into the start of a buffer, one after the other.
 use Rattle.std.proofs.Common.{◌≡◌, ℕ, zero, suc, ◌+◌, ◌<◌, ◌≤◌, List, [], ◌∷◌, ◌++◌, length, take, drop, slice_set, refl, ap, ◌∙◌, arith, length-set}
 use Rattle.host_core.specs.declared.rights.Run.{Run}
 use Rattle.nvmesgl_c.specs.HostReach.{laid, run_of}
 use Rattle.nvmesgl_c.specs.declared.host.reach.CRun.{CRun}
 
--- so many stand in front, and those that are left go behind them
+-- this many are at the start, and those that are left go after them
 pub record LaysOn (runs left : List Run) (old into : List CRun) (count : ℕ) : Type 0 where
   pub lays : laid runs old ≡ take count into ++ laid left (drop count into)
   pub long : length into ≡ length old

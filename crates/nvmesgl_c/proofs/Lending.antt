@@ -1,9 +1,14 @@
--- A call that was made over a pool or over regions, and a look, as what their exports say. The controller that is called stands in a box.
+-- A call that was made over a pool or over regions, and a look, as what their exports say. The controller that is called is in a box.
 use Rattle.std.{proofs.Common.{◌≡◌, ℕ, ◌≤◌, ◌/◌, List, Option, Ok, length, sym, ap, ◌∙◌, inl, subst, refl}, specs.List.slice_get}
 use Rattle.nvmesgl_c.specs.{ControllerCalls.Lent, ControllerKept.Kept, ControllerNext.{Sees, TellsNext, step_of}, ControllerOver.{LentOver, TellsNextOver}, Regions.{memory_of, pages_of}}
 use Rattle.nvmesgl_c.specs.declared.{controller.next.CStep.CStep, words.{answer.Answer.Answer, region.CRegion.CRegion}}
 use Rattle.controller_core.specs.{Contents.Contents, declared.look.ControllerStep.ControllerStep}
 use Rattle.page_memory.specs.Memory.{Memory}
+use Rattle.nvmesgl_c.specs.ControllerDevices.{DeviceContents}
+
+-- what a controller of either kind keeps
+abbrev pub contents : DeviceContents → Contents
+contents d = d.contents
 
 pub lent_called : (Calls : Contents → ℕ → Memory → ℕ → Answer → Contents → Memory → Type 0) (old new : Kept) (k held k' : Contents) (pool pool' : List ℕ) (code : ℕ) (answer : Answer) →
     old ≡ Ok k → held ≡ k → new ≡ Ok k' → length pool ≤ 268435456 → Calls held (length pool / 4096) (slice_get pool) code answer k' (slice_get pool') → Lent Calls old pool code answer new pool'
@@ -12,7 +17,7 @@ lent_called Calls old new k held k' pool pool' code answer was same is fits call
     (subst (λ (o : Kept). Lent Calls (Ok k) pool code answer o pool') (sym is)
     (inl (fits, subst (λ (h : Contents). Calls h (length pool / 4096) (slice_get pool) code answer k' (slice_get pool')) same called)))
 
--- what stands in a pool after a look, where that is what the look left
+-- what is in a pool after a look, where that is what the look left
 pub left_alike : (pool' left pool : List ℕ) → pool' ≡ left → slice_get left ≡ slice_get pool → slice_get pool' ≡ slice_get pool
 left_alike pool' left pool same kept = ap slice_get same ∙ kept
 

@@ -7,6 +7,7 @@ mod Runs
 mod Unshown
 mod Marks
 mod Lending
+mod LentTold
 mod Seen
 mod Told
 mod Laying

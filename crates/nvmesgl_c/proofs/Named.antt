@@ -1,4 +1,4 @@
--- A memory with a name behind all addresses: at each address it is that memory, and it tells the name.
+-- A memory with a name beyond all addresses: at each address it is that memory, and it tells the name.
 use Rattle.std.proofs.Common.{◌≡◌, ◌≢◌, ℕ, zero, suc, ◌+◌, ◌-◌, ◌^◌, ◌<◌, ◌≤◌, ◌&&◌, List, Option, Some, None, refl, sym, ap, ◌∙◌, length, nat_le, nat_lt, slice_index, if◌then◌else◌, arith, inl, inr}
 use Rattle.std.proofs.{Math.Path.fun_ext, lemmas.Bool.{cases_lt, Decides.nat_tests}}
 use Rattle.page_memory.{proofs.Bytes.written_after, specs.Memory.{Memory, bytes_at, written}}
@@ -10,7 +10,7 @@ at_address m name place low = grind (arith, nat_tests)
 far : (m : Memory) (name place : ℕ) → 2 ^ 65 ≤ place → named_memory m name place ≡ Some name
 far m name place high = grind (arith, nat_tests)
 
--- a range from an address on
+-- a range starting at an address
 pub bytes_named : (m : Memory) (name at n : ℕ) → at + n ≤ 2 ^ 65 → bytes_at (named_memory m name) at n ≡ bytes_at m at n
 unfolding bytes_at
 bytes_named m name at zero low = refl
@@ -22,7 +22,7 @@ bytes_named m name at (suc n) low =
 pub there_named : (m : Memory) (name at n : ℕ) → at + n ≤ 2 ^ 65 → bytes_at m at n ≢ None → bytes_at (named_memory m name) at n ≢ None
 there_named m name at n low there = rw (bytes_named m name at n low) there
 
--- one place of two memories that are written alike
+-- one address of two memories that are written alike
 pub written_alike : (m m' : Memory) (at place : ℕ) (new : List ℕ) → m place ≡ m' place → written m at new place ≡ written m' at new place
 written_alike m m' at place new e =
     ap (λ (o : Option ℕ). if nat_le at place && nat_lt place (at + length new) then Some (slice_index new (place - at)) else o) e

@@ -1,4 +1,4 @@
--- A poll takes one completion more.
+-- A poll takes one more completion.
 use Rattle.std.proofs.Common.{◌≡◌, ℕ, ◌+◌, ◌<◌, ◌≤◌, false, List, [], ◌∷◌, ◌++◌, Option, Some, None, length, take, drop, slice_set, refl, ap, sym, ◌∙◌, subst, arith, length-set}
 use Rattle.std.proofs.lemmas.List.{append-nil, drop-set-lt, drop_all, length-take-le, take-append-drop, take_all, take_more_set}
 use Rattle.std.proofs.lemmas.Grind.{drop_more_same}
@@ -15,7 +15,7 @@ takes_more : (t mid new : Table) (tags : List (Row ℕ)) (q : ℕ) (before : Opt
 takes_more t mid new tags q before [] bell entry rung so more = (rung, new, subst (λ (m : Table). Takes m tags q entry rung new) so.1 more, (refl, refl))
 takes_more t mid new tags q before (first ∷ entries) bell entry rung so more = (so.0, so.1, so.2, takes_more so.1 mid new tags q so.0 entries bell entry rung so.3 more)
 
--- so many completions were taken, and stand in front
+-- this many completions were taken, and are at the start
 pub record Polling (t : Table) (tags : List (Row ℕ)) (q : ℕ) (old now : List CEnded) (count : ℕ) (bell : Option Doorbell) (mid : Table) : Type 0 where
   pub takes : TakesAll t tags q None (take count now) bell mid
   pub rest : drop count now ≡ drop count old

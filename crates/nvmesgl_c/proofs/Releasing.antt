@@ -74,17 +74,17 @@ same_value x y e = cc
 
 found_is : {A : Type 0} (test : A → Bool) (xs : List A) (x : A) → find test xs ≡ Some x → test x ≡ true
 found_is test [] x h = absurd cc
-found_is test (y ∷ xs) x h = go (test y) refl (found_is test xs x) h where
-  go : (b : Bool) → test y ≡ b → (find test xs ≡ Some x → test x ≡ true) → (if b then Some y else find test xs) ≡ Some x → test x ≡ true
-  go true is behind e = subst (λ z. test z ≡ true) (same_value y x e) is
-  go false is behind e = behind e
+found_is test (y ∷ xs) x h = by_test (test y) refl (found_is test xs x) h where
+  by_test : (b : Bool) → test y ≡ b → (find test xs ≡ Some x → test x ≡ true) → (if b then Some y else find test xs) ≡ Some x → test x ≡ true
+  by_test true is behind e = subst (λ z. test z ≡ true) (same_value y x e) is
+  by_test false is behind e = behind e
 
 found_last : {A : Type 0} (test : A → Bool) (xs : List A) (x : A) → find test xs ≡ None → test x ≡ true → find test (xs ++ x ∷ []) ≡ Some x
 found_last test [] x none is = ap (λ (b : Bool). if b then Some x else None) is
-found_last test (y ∷ xs) x none is = go (test y) (λ e. found_last test xs x e is) none where
-  go : (b : Bool) → (find test xs ≡ None → find test (xs ++ x ∷ []) ≡ Some x) → (if b then Some y else find test xs) ≡ None → (if b then Some y else find test (xs ++ x ∷ [])) ≡ Some x
-  go true behind e = absurd cc
-  go false behind e = behind e
+found_last test (y ∷ xs) x none is = by_test (test y) (λ e. found_last test xs x e is) none where
+  by_test : (b : Bool) → (find test xs ≡ None → find test (xs ++ x ∷ []) ≡ Some x) → (if b then Some y else find test xs) ≡ None → (if b then Some y else find test (xs ++ x ∷ [])) ≡ Some x
+  by_test true behind e = absurd cc
+  by_test false behind e = behind e
 
 -- A collected command's record
 
@@ -105,14 +105,14 @@ record IsFrom (m : Pages) (r : Record) (f : FinishedContents) : Type 0 where
   back : f.chain_pages ≡ pages_with_bytes m r.chain_pages
 
 from_record : (s : State) (r : Record) (f : FinishedContents) → finished_from s r ≡ Some f → IsFrom s.memory r f
-from_record s r f h = go (asked_by r.work) refl r.status h where
+from_record s r f h = by_request (asked_by r.work) refl r.status h where
   made : Request → Status → FinishedContents
   made asked st = record { q = r.q; cid = r.cid; request = asked; status = st; hints = r.hints; data_pages = pages_with_bytes s.memory r.data_pages; chain_pages = pages_with_bytes s.memory r.chain_pages }
 
-  go : (w : Option Request) → asked_by r.work ≡ w → (st : Option Status) → option_and_then (λ (asked : Request). option_map (made asked) st) w ≡ Some f → IsFrom s.memory r f
-  go None is st e = absurd cc
-  go (Some asked) is None e = absurd cc
-  go (Some asked) is (Some st) e =
+  by_request : (w : Option Request) → asked_by r.work ≡ w → (st : Option Status) → option_and_then (λ (asked : Request). option_map (made asked) st) w ≡ Some f → IsFrom s.memory r f
+  by_request None is st e = absurd cc
+  by_request (Some asked) is None e = absurd cc
+  by_request (Some asked) is (Some st) e =
       let same = same_value (made asked st) f e in
       subst (IsFrom s.memory r) same (record { queue = refl; identifier = refl; asked = asked_for asked r.work is; front = refl; back = refl })
 
@@ -174,15 +174,15 @@ released s new f r none step = absurd (surely _ s.trusted false refl step.1).1
 -- Of a bench
 
 collected_kept : (t mid : Table) (q cid : ℕ) (st : Status) (h : Hints) → bench.Does t (step.Collect q cid) (reply.Collected st h) mid → (f : FinishedContents) × (mid.finished ≡ t.finished ++ f ∷ []) × IsCollected q cid f mid.world
-collected_kept t mid q cid st h does = go (list_any (is_ticket q cid) t.tickets) does where
+collected_kept t mid q cid st h does = by_ticket (list_any (is_ticket q cid) t.tickets) does where
   by_reply : (e : events.Reply) → reply.Collected st h ≡ bench.told e → Step t.world (events.Collect q cid) e mid.world → mid ≡ record (bench.kept t (step.Collect q cid) e) { world = mid.world }
       → (f : FinishedContents) × (mid.finished ≡ t.finished ++ f ∷ []) × IsCollected q cid f mid.world
   by_reply (events.Collects f) tells made keeps = (f, ap (λ (x : Table). x.finished) keeps, collected_known t.world mid.world q cid f made)
   by_reply e tells made keeps = absurd cc
 
-  go : (b : Bool) → bench.DoesBy (if b then Some (events.Collect q cid) else None) t (step.Collect q cid) (reply.Collected st h) mid → (f : FinishedContents) × (mid.finished ≡ t.finished ++ f ∷ []) × IsCollected q cid f mid.world
-  go false d = absurd cc
-  go true d = by_reply d.reply d.tells d.step d.keeps
+  by_ticket : (b : Bool) → bench.DoesBy (if b then Some (events.Collect q cid) else None) t (step.Collect q cid) (reply.Collected st h) mid → (f : FinishedContents) × (mid.finished ≡ t.finished ++ f ∷ []) × IsCollected q cid f mid.world
+  by_ticket false d = absurd cc
+  by_ticket true d = by_reply d.reply d.tells d.step d.keeps
 
 released_after : (t mid new : Table) (q cid : ℕ) (st : Status) (h : Hints) (r : Reply) → finished_at q cid t.finished ≡ None → bench.Does t (step.Collect q cid) (reply.Collected st h) mid
     → bench.Does mid (step.Release q cid) r new → r ≡ reply.Accepted

@@ -115,7 +115,7 @@ put_here old new xs addr at p bytes where-is long becomes begins fits = elim (de
       ]
 ]
 
--- of a region behind others, which have no byte of the range
+-- of a region after others, which have no byte of the range
 put_at : (rs : List CRegion) (place : ℕ) (old new : CRegion) (addr at p : ℕ) (bytes : List ℕ) → slice_get rs place ≡ Some old → new.addr ≡ old.addr → length new.bytes.now ≡ length old.bytes.now
     → new.bytes.now ≡ with_bytes old.bytes.now at bytes → old.addr + at ≡ addr → at + length bytes ≤ length old.bytes.now
     → ((j : ℕ) (x : CRegion) → j < place → slice_get rs j ≡ Some x → IsClear x addr (length bytes))
@@ -135,7 +135,7 @@ put_at (x ∷ xs) (suc place) old new addr at p bytes found where-is long become
       ∙ written_alike (byte_in xs) (byte_in (x ∷ xs)) addr p bytes (sym (byte_on x xs p lacks))
 ]
 
--- so many bytes were written, and the next run is
+-- this many bytes were written, and the next run is
 pub put_more : (m : Memory) (rs : List CRegion) (addr done : ℕ) (run : Run) (new : CRegion) (bytes piece : List ℕ) (is : IsRun rs (addr + done) (length bytes - done) run)
     → new.addr ≡ is.region.addr → length new.bytes.now ≡ length is.region.bytes.now → new.bytes.now ≡ with_bytes is.region.bytes.now run.at piece
     → piece ≡ take run.count (drop done bytes) → length piece ≡ run.count → done ≤ length bytes

@@ -1,4 +1,4 @@
--- Bytes are laid into the front of buffers, one after the other.
+-- Bytes are laid into the start of buffers, one after the other.
 use Rattle.std.proofs.Common.{◌≡◌, ℕ, zero, suc, ◌+◌, ◌<◌, ◌≤◌, List, [], ◌∷◌, ◌++◌, length, take, drop, map, min, slice_set, refl, ap, sym, ◌∙◌, arith, length-set, subst}
 use Rattle.std.proofs.lemmas.List.{length-map, append-nil, drop_all, take_all, drop_min, same_lists, places, map-set, get_or-map}
 use Rattle.std.specs.Prelude.{get_or}
@@ -28,7 +28,7 @@ lengths_laid bytes (old ∷ olds) =
     ap (λ (n : ℕ). n ∷ map (λ (x : List ℕ). length x) (laid_in (drop (length old) bytes) olds)) (length_filled bytes old)
     ∙ ap (λ (l : List ℕ). length old ∷ l) (lengths_laid (drop (length old) bytes) olds)
 
--- so many buffers are filled, and what is left goes into the others
+-- this many buffers are filled, and what is left goes into the others
 pub record Scattered (bytes rest : List ℕ) (olds nows : List (List ℕ)) (count : ℕ) : Type 0 where
   pub lays : laid_in bytes olds ≡ take count nows ++ laid_in rest (drop count nows)
   pub long : length nows ≡ length olds

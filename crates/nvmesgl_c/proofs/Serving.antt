@@ -27,7 +27,7 @@ counts_more p rs r b is =
 one_longer : (rs : List Reply) (r : Reply) → length (rs ++ r ∷ []) ≡ length rs + 1
 one_longer rs r = length-append rs (r ∷ [])
 
--- so many steps of the controller, of which so many completed a command
+-- this many steps of the controller, of which this many completed a command
 pub record Serving (t : Table) (completed made : ℕ) (new : Table) : Type 0 where
   pub steps : List Step
   pub replies : List Reply
@@ -92,7 +92,7 @@ refused_last t mid new completed made what why last so own does refused =
       ends = (so.replies, last, refl, refused);
     }
 
--- so many reaps for a command, none of which stopped
+-- this many reaps for a command, none of which stopped
 pub record Reaping (q cid : ℕ) (t : Table) (taken : ℕ) (new : Table) : Type 0 where
   pub replies : List Reply
   pub does : DoesAll t (map (λ r. step.Reap q) replies) replies new
@@ -123,7 +123,7 @@ pub reaped_last : (q cid : ℕ) (t mid new : Table) (taken : ℕ) (r : Reply) �
 reaped_last q cid t mid new taken r so does is =
     record { replies = so.replies ++ r ∷ []; does = reap_more q t mid new so.replies r so.does does; stop = inl (so.replies, r, refl, is, so.on) }
 
--- a reserved command that came out so
+-- a reserved command that turned out so
 pub carried_on : (t reserved new : Table) (q cid : ℕ) (request : Request) (bytes : Option (List ℕ)) (answer : Reply) (carried : Outcome)
     → Does t (step.Reserve q request) answer reserved → Names cid answer → ComesOut reserved q cid bytes carried new → Carries t q request bytes carried new
 carried_on t reserved new q cid request bytes answer (NotReserved why) does named comes = absurd comes

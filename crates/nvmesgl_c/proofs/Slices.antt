@@ -1,4 +1,4 @@
--- A slice as a memory: what is read of a range that lies in it, what is missing behind it, and what a write leaves.
+-- A slice as a memory: what is read of a range that lies in it, what is missing after it, and what a write leaves.
 use Rattle.std.proofs.Common.{◌≡◌, ◌≢◌, inl, inr, ℕ, ◌+◌, ◌-◌, ◌<◌, ◌≤◌, List, Option, Some, None, sym, ap, ◌∙◌, length, take, drop, get_or, arith}
 use Rattle.std.{proofs.{Math.Path.fun_ext, lemmas.{Bool.cases_lt, Grind.common_steps, Option.{slice_get-get_or, slice_get_past}}}, specs.List.slice_get}
 use Rattle.page_memory.{proofs.Bytes.{bytes_held, missing_at, written_in, written_before, written_after}, specs.{Memory.{bytes_at, written}, Pages.with_bytes}}
@@ -40,7 +40,7 @@ get_with_before xs new at k fits low = grind (arith, common_steps)
 get_with_after : (xs new : List ℕ) (at k : ℕ) → at + length new ≤ length xs → at + length new ≤ k → k < length xs → get_or (with_bytes xs at new) k 0 ≡ get_or xs k 0
 get_with_after xs new at k fits high low = grind (arith, common_steps)
 
--- a place after a write, which the write reaches or not
+-- a position after a write, which the write reaches or not
 at_place : (xs new : List ℕ) (at k : ℕ) → at + length new ≤ length xs → k < length xs → slice_get (with_bytes xs at new) k ≡ written (slice_get xs) at new k
 at_place xs new at k fits small =
     let there : slice_get (with_bytes xs at new) k ≡ Some (get_or (with_bytes xs at new) k 0) =

@@ -1,4 +1,4 @@
--- A tag is given where one stands, and where none does.
+-- A tag is given where there is one, and where there is none.
 use Rattle.std.proofs.Common.{◌≡◌, ℕ, Option, Some, None, List, refl, ap, sym, ◌∙◌}
 use Rattle.std.specs.Prelude.{unwrap_or}
 use Rattle.host_bench.proofs.KeptRows.{value_with, without_with}

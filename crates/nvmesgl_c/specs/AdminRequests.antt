@@ -14,7 +14,7 @@ use_of (suc zero) = Some page_use.In
 use_of (suc (suc zero)) = Some page_use.Out
 use_of n = None
 
--- one piece of so many bytes from the start of a page, and none of no bytes
+-- one piece of this many bytes from the start of a page, and none of no bytes
 abbrev pub pieces_of : ℕ → List Piece
 pieces_of bytes = if bytes == 0 then [] else (piece.Data 0 bytes ∷ [])
 
@@ -31,7 +31,7 @@ admin_by None r = Err 4
 admin_by (Some page) r =
     Ok (record { kind = kind.Admin (command_of r r.opcode page); nsid = r.nsid; flags = NONE; slba = 0; block_size = Bytes512; blocks = 0; pieces = pieces_of r.bytes })
 
--- the request, or the code of the first that stands against it
+-- the request, or the code of the first obstacle
 abbrev pub admin_of : CAdmin → Result Request ℕ
 admin_of r =
     if r.size == 48

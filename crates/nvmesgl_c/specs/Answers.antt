@@ -33,7 +33,7 @@ nothing =
       tag = 0;
     }
 
--- the first four pages, with 0 behind them
+-- the first four pages, with 0 after them
 abbrev pub first_pages : List ℕ → List ℕ
 first_pages pages =
     unwrap_or (slice_get pages 0) 0 ∷ unwrap_or (slice_get pages 1) 0 ∷ unwrap_or (slice_get pages 2) 0 ∷ unwrap_or (slice_get pages 3) 0 ∷ []

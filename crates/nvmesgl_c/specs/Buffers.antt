@@ -22,11 +22,11 @@ lengths_of buffers = map (λ (bytes : List ℕ). length bytes) (contents_of buff
 abbrev pub places_of : List CBuffer → List GName
 places_of buffers = map (λ b. b.bytes.ghost_name) buffers
 
--- bytes at the front of others, as many as fit
+-- bytes at the start of others, as many as fit
 abbrev pub filled : List ℕ → List ℕ → List ℕ
 filled bytes old = take (length old) bytes ++ drop (length bytes) old
 
--- bytes at the front of others, where all fit
+-- bytes at the start of others, where all fit
 abbrev pub LaidIn : List ℕ → Bool → List ℕ → List ℕ → Type 0
 LaidIn bytes true old new = (length bytes ≤ length old) × (new ≡ bytes ++ drop (length bytes) old)
 LaidIn bytes false old new = (length old < length bytes) × (new ≡ old)

@@ -37,7 +37,7 @@ Resets (Ok c) code new = (code ≡ 0) × (new ≡ Ok (reset c))
 
 -- The calls over a pool
 
--- a fetch over a memory with so many pages: its result is told, with the pages that it touched
+-- a fetch over a memory with this many pages: its result is told, with the pages that it touched
 abbrev pub TellsFetch : Result ℕ Refusal → List ℕ → ℕ → Answer → Type 0
 TellsFetch (Ok cid) touched code answer = (code ≡ 0) × (answer ≡ record (touching touched) { cid = cid })
 TellsFetch (Err why) touched code answer = (code ≡ code_of_refusal why) × (answer ≡ touching touched)

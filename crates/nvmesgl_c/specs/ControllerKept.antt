@@ -1,17 +1,42 @@
 -- What a handle of a controller keeps, as a call finds it.
-use Rattle.std.specs.Prelude.{◌≡◌, ℕ, Option, Some, Result, Ok, Err}
+use Rattle.std.specs.Option.{option_map_or}
+use Rattle.std.specs.Prelude.{◌≡◌, ℕ, Bool, false, Option, Some, None, Result, Ok, Err, if◌then◌else◌}
 use Rattle.controller_core.specs.Contents.{Contents}
-use Rattle.nvmesgl_c.specs.{Keeping.{keeps, cause_of_mark, code_of_mark}, declared.controller.handle.Handle.Handle}
+use Rattle.nvmesgl_c.specs.{ControllerDevices.DeviceContents, ControllerOwned.code_by_mark, Keeping.cause_of_mark, declared.controller.handle.Handle.Handle}
 
 abbrev pub Kept : Type 0
 Kept = Result Contents Handle
 
-abbrev pub kept_in : Handle → Kept
-kept_in h = keeps h.kept.controller h
+-- a controller of either kind
+abbrev pub kept_of : Handle → Option DeviceContents → Kept
+kept_of h (Some d) = Ok d.contents
+kept_of h None = Err h
 
--- what a call is refused with, of a handle that keeps nothing
+abbrev pub kept_in : Handle → Kept
+kept_in h = kept_of h h.kept.device
+
+-- a controller with an image, and one whose blocks are lent: for a call that takes no other, a handle that keeps another keeps none
+abbrev pub own_of : Handle → Option DeviceContents → Kept
+own_of h (Some d) = if d.lends then Err h else Ok d.contents
+own_of h None = Err h
+
+abbrev pub own_in : Handle → Kept
+own_in h = own_of h h.kept.device
+
+abbrev pub lent_of : Handle → Option DeviceContents → Kept
+lent_of h (Some d) = if d.lends then Ok d.contents else Err h
+lent_of h None = Err h
+
+abbrev pub lent_in : Handle → Kept
+lent_in h = lent_of h h.kept.device
+
+-- whether a controller is kept whose blocks are lent
+abbrev pub lends_in : Handle → Bool
+lends_in h = option_map_or (λ d. d.lends) h.kept.device false
+
+-- what a call is refused with, of a handle that keeps nothing, or no controller of the kind that the call takes
 abbrev pub code_in : Handle → ℕ
-code_in h = code_of_mark h.mark
+code_in h = code_by_mark h.mark
 
 abbrev pub IsClosed : Handle → Type 0
 IsClosed h = h.mark ≡ 0

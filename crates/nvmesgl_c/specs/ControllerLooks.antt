@@ -5,7 +5,7 @@ use Rattle.controller_core.specs.Contents.{FetchedCommand, is_command, verdict_o
 use Rattle.entry_codec.specs.declared.status.Status.{Status}
 use Rattle.nvmesgl_c.specs.{ControllerKept.{Kept, code_in}, declared.controller.looks.CCommand.CCommand}
 
--- so many units were done, and how the command ends, once that is known
+-- this many units were done, and how the command ends, once that is known
 abbrev pub command_with : ℕ → Option Status → CCommand
 command_with units (Some status) = record { units = units; ended = true; sct = status.sct; sc = status.sc; reserved = 0 ∷ 0 ∷ 0 ∷ 0 ∷ [] }
 command_with units None = record { units = units; ended = false; sct = 0; sc = 0; reserved = 0 ∷ 0 ∷ 0 ∷ 0 ∷ [] }
@@ -22,7 +22,7 @@ abbrev pub TellsCommand : Kept → ℕ → ℕ → ℕ → CCommand → CCommand
 TellsCommand (Err h) q cid code old new left = (code ≡ code_in h) × (new ≡ old) × (left ≡ Err h)
 TellsCommand (Ok c) q cid code old new left = Shows (find (is_command q cid) c.commands) code old new × (left ≡ Ok c)
 
--- blocks of the image fill a buffer, where the buffer is whole blocks and the image has as many of them from slba on
+-- blocks of the image fill a buffer, where the buffer is whole blocks and the image has as many of them starting at slba
 abbrev pub Copies : List ℕ → ℕ → ℕ → List ℕ → List ℕ → Type 0
 Copies image slba code old new =
     (IsInRange image slba old × (code ≡ 0) × (new ≡ blocks_at image slba (block_count old)))

@@ -14,7 +14,7 @@ step_of (Some (Fetch q)) = step_with 1 q 0
 step_of (Some (Walk q cid)) = step_with 2 q cid
 step_of (Some (Complete q cid)) = step_with 3 q cid
 
--- the step is refused for want of memory at most; where there is none, each call is refused
+-- the step is refused for lack of memory at most; where there is none, each call is refused
 abbrev pub Can : Contents → Memory → Option ControllerStep → Type 0
 Can c m (Some step) = refusal_by c m step ≡ None
 Can c m None = IsAtRest c m

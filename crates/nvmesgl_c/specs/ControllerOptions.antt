@@ -14,7 +14,7 @@ pages_of_queue queue = record { sq = queue.sq; cq = queue.cq }
 abbrev pub is_bad_config : ℕ → ℕ → Bool
 is_bad_config entries queues = nat_lt entries 2 || nat_lt 1024 entries || nat_lt 65536 queues
 
--- what is wrong with the options, for so many queues
+-- what is wrong with the options, for this many queues
 abbrev pub fault_of : Options → ℕ → Option NotOpened
 fault_of o queues =
     option_or (fault_of_form 32 o.size o.reserved) (if is_bad_config o.entries queues then Some (not_opened.Refused open_refusal.BadConfig) else None)
@@ -30,12 +30,12 @@ pub record IsOpened (o : Options) (queues : List CQueue) (bytes : List ℕ) (new
   pub form : fault_of o (length queues) ≡ None
   pub opened : new ≡ opened o.entries (map pages_of_queue queues) (image_of o.blocks bytes)
 
--- an opening that nothing about the handle stands against, or one that its handle is refused for
+-- an opening that nothing about the handle prevents, or one that its handle is refused for
 abbrev pub OpensBy : Option ℕ → Kept → Options → List CQueue → List ℕ → ℕ → Kept → Type 0
 OpensBy (Some cause) t o queues bytes code new = (code ≡ cause) × (new ≡ t)
 OpensBy None t o queues bytes code (Ok new) = (code ≡ 0) × IsOpened o queues bytes new
 OpensBy None t o queues bytes code (Err h) = (why : NotOpened) × IsWhy o (length queues) bytes why × (code ≡ code_of_not_opened why) × (t ≡ Err h)
 
--- an opening: a handle that is open, or is none of this kind, stays as it is; one that is closed opens, or stays closed for a cause that is told
+-- an opening: a handle that is open, or is not of this kind, stays as it is; one that is closed opens, or stays closed for a cause that is told
 abbrev pub Opens : Kept → Options → List CQueue → List ℕ → ℕ → Kept → Type 0
 Opens t o queues bytes code new = OpensBy (cause_in t) t o queues bytes code new

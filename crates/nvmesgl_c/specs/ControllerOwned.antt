@@ -1,21 +1,34 @@
 -- What a handle owns: what the controller that is held by its pointer owns.
-use Rattle.std.specs.{Coded.coded_option, Global.Global, Prelude.{ℕ, Option}, contracts.impls.GlobalAllocator.TheImpl.ghosts}
+use Rattle.std.specs.{Coded.coded_option, Global.Global, Option.option_map, Prelude.{◌≡◌, ◌==◌, ℕ, Bool, true, false, Option, Some, None, if◌then◌else◌}, contracts.impls.GlobalAllocator.TheImpl.ghosts}
 use base.{Fml.Fml, Stored.Coded}
 use denote.{RattleType.RattleType, RawPtr.Ptr}
-use Rattle.controller_core.specs.Contents.{Contents}
-use Rattle.nvmesgl_c.specs.HeldOwned.{held_owns}
-use Rattle.std.specs.contracts.alloc.Global as heap
-use Rattle.controller_core.specs.contracts.controller.Controller as controller
+use Rattle.nvmesgl_c.specs.{ControllerDevices.DeviceContents, HeldOwned.held_owns, Keeping.code_of_mark}
+use Rattle.nvmesgl_c.specs.contracts.controller.device.Device as device
 
 abbrev pub Row : RattleType
-Row = controller.the_row heap.the_row ghosts
+Row = device.the_row
 
-abbrev pub controller_coded : Coded (Option Contents)
-controller_coded = coded_option Row.coded
+abbrev pub device_coded : Coded (Option DeviceContents)
+device_coded = coded_option Row.coded
 
-abbrev pub kept_owns : Global → Ptr → Option Contents → Fml
-kept_owns alloc at controller = held_owns (ghosts.dealloc_token alloc) Row at controller
+abbrev pub kept_owns : Global → Ptr → Option DeviceContents → Fml
+kept_owns alloc at device = held_owns (ghosts.dealloc_token alloc) Row at device
 
--- the mark of a handle that keeps one
+-- the mark of a handle that keeps a controller with an image, and of one that keeps a controller whose blocks are lent
 abbrev pub own_mark : ℕ
 own_mark = 0x6C74_6363
+
+abbrev pub lent_mark : ℕ
+lent_mark = 0x6C74_636C
+
+-- the kind that a mark tells
+abbrev pub kind_of_mark : ℕ → Option Bool
+kind_of_mark mark = if mark == own_mark then Some false else if mark == lent_mark then Some true else None
+
+-- a handle has the mark of the kind that it keeps, exactly where it keeps one
+abbrev pub IsMarkedDevice : ℕ → Option DeviceContents → Type 0
+IsMarkedDevice mark device = option_map (λ d. d.lends) device ≡ kind_of_mark mark
+
+-- what a call is refused with that takes no handle of a mark
+abbrev pub code_by_mark : ℕ → ℕ
+code_by_mark mark = if mark == own_mark then 59 else if mark == lent_mark then 59 else code_of_mark mark

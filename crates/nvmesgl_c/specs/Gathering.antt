@@ -1,8 +1,8 @@
--- What a collected command brought, at the front of a buffer.
+-- What a collected command brought, at the start of a buffer.
 use Rattle.std.specs.Prelude.{◌≡◌, ◌<◌, ◌++◌, ⊤, ℕ, Option, None, Some, List, drop, length}
 use Rattle.io_commands.specs.Values.{FinishedContents, gathered_from, gathered_length}
 
--- so many bytes were gathered there
+-- this many bytes were gathered there
 pub record IsGathered (finished : Option FinishedContents) (count : ℕ) (old buffer : List ℕ) : Type 0 where
   pub command : FinishedContents
   pub there : finished ≡ Some command

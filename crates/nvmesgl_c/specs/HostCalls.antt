@@ -33,7 +33,7 @@ abbrev pub Refuses : Kept → ℕ → ℕ → Answer → Kept → Type 0
 Refuses (Err h) cause code answer new = (code ≡ code_in h) × (answer ≡ nothing) × (new ≡ Err h)
 Refuses (Ok t) cause code answer new = (code ≡ cause) × (answer ≡ nothing) × (new ≡ Ok t)
 
--- a Read's bytes at the front of a buffer, where they fit
+-- a Read's bytes at the start of a buffer, where they fit
 abbrev pub Laid : Result Reply ℕ → ℕ → List ℕ → List ℕ → Type 0
 Laid (Ok (reply.Gathered bytes)) code old new =
     ((length old < length bytes) × (code ≡ 5) × (new ≡ old)) ⊎ ((code ≡ 0) × (new ≡ bytes ++ drop (length bytes) old))
@@ -45,12 +45,12 @@ pub record Gathers (t : Kept) (q cid code : ℕ) (old buffer : List ℕ) (answer
   pub laid : Laid reply code old buffer
   pub answer_is : answer ≡ told reply
 
--- of a command of the host that a handle keeps so many bytes were gathered to the front of a buffer, without a call
+-- of a command of the host that a handle keeps this many bytes were gathered to the start of a buffer, without a call
 abbrev pub IsGatheredOf : Kept → ℕ → ℕ → ℕ → List ℕ → List ℕ → Type 0
 IsGatheredOf (Err h) q cid count old buffer = ⊥
 IsGatheredOf (Ok t) q cid count old buffer = IsGathered (finished_at q cid t.bench.finished) count old buffer
 
--- there is no such command, or what it brought does not fit so many bytes
+-- there is no such command, or what it brought does not fit this many bytes
 abbrev pub IsUngatheredOf : Kept → ℕ → ℕ → ℕ → Type 0
 IsUngatheredOf (Err h) q cid room = ⊤
 IsUngatheredOf (Ok t) q cid room = IsUngathered (finished_at q cid t.bench.finished) room

@@ -25,7 +25,7 @@ abbrev pub TellsCounts : Kept → ℕ → CPages → CPages → Kept → Type 0
 TellsCounts (Err h) code old new left = (code ≡ code_in h) × (new ≡ old) × (left ≡ Err h)
 TellsCounts (Ok t) code old new left = (code ≡ 0) × (new ≡ pages_of t.bench) × (left ≡ Ok t)
 
--- a page is looked for: its owner is that of the one claim in which it stands; there is none outside the pool
+-- a page is searched for: its owner is that of the one claim that has it; there is none outside the pool
 abbrev pub FindsOwner : Table → ℕ → Option Owner → Type 0
 FindsOwner t page None = length t.world.memory ≤ page
 FindsOwner t page (Some owner) = Contains (claims_of t.world.host) (page, owner)

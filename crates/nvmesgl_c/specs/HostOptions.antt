@@ -29,12 +29,12 @@ pub record IsOpened (o : Options) (new : Tagged) : Type 0 where
   pub opened : new.bench ≡ table (opened_alone (config_of o))
   pub no_tag : new.tags ≡ []
 
--- an opening that nothing about the handle stands against, or one that its handle is refused for
+-- an opening that nothing about the handle prevents, or one that its handle is refused for
 abbrev pub OpensBy : Option ℕ → Kept → Options → ℕ → Answer → Kept → Type 0
 OpensBy (Some cause) t o code answer new = (code ≡ cause) × (answer ≡ nothing) × (new ≡ t)
 OpensBy None t o code answer (Ok new) = (code ≡ 0) × (answer ≡ nothing) × IsOpened o new
 OpensBy None t o code answer (Err h) = (why : NotOpened) × IsWhy o why × (code ≡ code_of_not_opened why) × (answer ≡ told_not_opened why) × (t ≡ Err h)
 
--- an opening: a handle that is open, or is none of this kind, stays as it is; one that is closed opens, or stays closed for a cause that is told
+-- an opening: a handle that is open, or is not of this kind, stays as it is; one that is closed opens, or stays closed for a cause that is told
 abbrev pub Opens : Kept → Options → ℕ → Answer → Kept → Type 0
 Opens t o code answer new = OpensBy (cause_in t) t o code answer new

@@ -5,15 +5,15 @@ use Rattle.machine_model.specs.Script.{Table}
 use Rattle.nvmesgl_c.specs.{HostKept.{Kept, code_in}}
 use Rattle.page_memory.specs.{Memory.bytes_at, Pages.byte_at}
 
--- whether so many bytes are moved by one call
+-- whether this many bytes are moved by one call
 abbrev pub fits : ℕ → Bool
 fits count = nat_lt 0 count && nat_le count 4096
 
--- the bytes of the pool from an address on, or nothing where one is missing
+-- the bytes of the pool starting at an address, or nothing where one is missing
 abbrev pub bytes_from : Table → ℕ → ℕ → Option (List ℕ)
 bytes_from t addr count = bytes_at (byte_at t.world.memory) addr count
 
--- they stand in the buffer, or the buffer is as it was
+-- they are in the buffer, or the buffer is as it was
 abbrev pub Shows : Bool → Option (List ℕ) → ℕ → List ℕ → List ℕ → Type 0
 Shows false found code old new = (code ≡ 53) × (new ≡ old)
 Shows true (Some bytes) code old new = (code ≡ 0) × (new ≡ bytes)
@@ -27,7 +27,7 @@ Reads (Err h) addr code old buffer new = (code ≡ code_in h) × (buffer ≡ old
 Reads (Ok t) addr code old buffer (Ok new) = ReadsFrom t.bench addr code old buffer new.bench × (new.tags ≡ t.tags)
 Reads (Ok t) addr code old buffer (Err h) = ⊥
 
--- bytes are written where bytes stand, or nothing changes
+-- bytes are written where bytes are, or nothing changes
 abbrev pub Puts : Bool → Option (List ℕ) → Table → ℕ → List ℕ → ℕ → Table → Type 0
 Puts false found t addr bytes code new = (code ≡ 53) × (new ≡ t)
 Puts true (Some there) t addr bytes code new = (code ≡ 0) × IsWritten t addr bytes new

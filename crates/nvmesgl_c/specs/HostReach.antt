@@ -1,4 +1,4 @@
--- What a handle shows of which pages a device may reach, and of where data lies.
+-- What a handle shows of the pages that a device may reach, and of where data lies.
 use Rattle.std.specs.Prelude.{◌≡◌, ◌<◌, ◌≤◌, ◌⊎◌, ℕ, Bool, true, false, Option, Some, None, Ok, Err, List, [], ◌∷◌, length, min}
 use Rattle.host_core.specs.{DataPlaces.place_at, Rights.{right_at, runs_of_command}}
 use Rattle.host_core.specs.declared.{data_place.DataPlace.DataPlace, rights.{Right.Right, Run.Run}}
@@ -21,7 +21,7 @@ abbrev pub TellsRight : Kept → ℕ → ℕ → ℕ → ℕ → Kept → Type 0
 TellsRight (Err h) page code old new left = (code ≡ code_in h) × (new ≡ old) × (left ≡ Err h)
 TellsRight (Ok t) page code old new left = (code ≡ 0) × (new ≡ number_of (right_at t.bench.world.host page)) × (left ≡ Ok t)
 
--- a buffer with runs in its front, as many as it holds
+-- a buffer with runs at its start, as many as it holds
 abbrev pub laid : List Run → List CRun → List CRun
 laid [] buffer = buffer
 laid (run ∷ runs) [] = []

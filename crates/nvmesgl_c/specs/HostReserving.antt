@@ -27,7 +27,7 @@ Tags (Some cid) reserved t q tag tells new =
     ((tells ≡ reserved) × (new.bench ≡ t.bench) × IsTagged t.tags q cid tag new.tags)
     ⊎ ((tag ≡ 0 → ⊥) × LacksTag t.bench q cid tells new.bench × (new.tags ≡ t.tags))
 
--- a reservation of a host: what is told is the reservation, or what stood against it
+-- a reservation of a host: what is told is the reservation, or what prevented it
 pub record ReservesOne (t : Tagged) (q : ℕ) (request : Request) (tag : ℕ) (tells : Reply) (new : Tagged) : Type 0 where
   pub reserved : Reply
   pub mid : Table

@@ -31,7 +31,7 @@ abbrev pub AllAccepted : Table → List Call → Table → Type 0
 AllAccepted t [] new = new ≡ t
 AllAccepted t (what ∷ calls) new = (mid : Table) × Does t what reply.Accepted mid × AllAccepted mid calls new
 
--- the first of these calls that was not accepted has this reply, and those behind it were not made
+-- the first of these calls that was not accepted has this reply, and those after it were not made
 abbrev pub FirstFails : Table → List Call → Reply → Table → Type 0
 FirstFails t [] why new = ⊥
 FirstFails t (what ∷ calls) why new =
@@ -45,7 +45,8 @@ pub record GivesUp (t : Table) (q cid : ℕ) (bytes : Option (List ℕ)) (why : 
   pub fails : FirstFails t (send_calls q cid bytes) why stopped
   pub cancels : Does stopped (call.Cancel q cid) answer new
 
--- after a reservation: where it was refused, that is told; else the command is submitted, and the reservation is told; or it is given up, and what is told stood against it
+-- after a reservation: where it was refused, that is told; else the command is submitted, and the reservation is told; or it is given up, and what is told prevented
+-- it
 abbrev pub SendsOn : Option ℕ → Reply → Tagged → ℕ → Option (List ℕ) → Reply → Tagged → Type 0
 SendsOn None reserved t q bytes tells new = (tells ≡ reserved) × (new ≡ t)
 SendsOn (Some cid) reserved t q bytes tells new =

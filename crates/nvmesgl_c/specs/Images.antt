@@ -3,7 +3,7 @@ use Rattle.std.specs.Prelude.{◌≡◌, ◌*◌, ◌<◌, ◌⊎◌, ℕ, List,
 use Rattle.block_image.specs.{Blocks.{IsImage, most_blocks}, declared.ImageError.ImageError}
 use Rattle.block_image.specs.declared.ImageError.TheVariants as image_error
 
--- the bytes that are given, or so many blocks of zeros where none are
+-- the bytes that are given, or this many blocks of zeros where none are
 abbrev pub image_of : ℕ → List ℕ → List ℕ
 image_of blocks [] = replicate (512 * blocks) 0
 image_of blocks (byte ∷ bytes) = byte ∷ bytes

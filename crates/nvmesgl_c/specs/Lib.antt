@@ -21,11 +21,14 @@ pub mod MachineKept
 pub mod MachineServing
 pub mod MachineWhole
 pub mod MachineCarried
+pub mod ControllerDevices
+pub mod ControllerDeviceOf
 pub mod ControllerCalls
 pub mod ControllerCodes
 pub mod ControllerLooks
 pub mod ControllerNext
 pub mod ControllerOver
+pub mod ControllerLent
 pub mod ControllerOptions
 pub mod ControllerOwned
 pub mod ControllerKept

@@ -31,7 +31,7 @@ Refuses (Ok t) cause code answer new = (code ≡ cause) × (answer ≡ nothing) 
 abbrev pub SaysOrWants : Kept → Step → ℕ → Answer → Kept → Type 0
 SaysOrWants t what code answer new = Says t what code answer new ⊎ Refuses t 15 code answer new
 
--- of more bytes than a command moves, one more than that is looked at
+-- of more bytes than a command moves, one more than that is read
 abbrev pub looked_at : List ℕ → List ℕ
 looked_at bytes = take 1048577 bytes
 
@@ -46,7 +46,7 @@ pub record Reserves (t : Kept) (q : ℕ) (asked : CRequest) (pieces : List CPiec
   pub is_made : IsMade (asked_of asked (requests.looked_at pieces)) made
   pub goes_on : ReservesMade made t q code answer new
 
--- a Read's bytes at the front of a buffer, where they fit
+-- a Read's bytes at the start of a buffer, where they fit
 abbrev pub Laid : Result Reply ℕ → ℕ → List ℕ → List ℕ → Type 0
 Laid (Ok (reply.Gathered bytes)) code old new =
     ((length old < length bytes) × (code ≡ 5) × (new ≡ old)) ⊎ ((code ≡ 0) × (new ≡ bytes ++ drop (length bytes) old))
@@ -58,12 +58,12 @@ pub record Gathers (t : Kept) (q cid code : ℕ) (old buffer : List ℕ) (answer
   pub laid : Laid reply code old buffer
   pub answer_is : answer ≡ told reply
 
--- of a command of the bench that a handle keeps so many bytes were gathered to the front of a buffer, without a step
+-- of a command of the bench that a handle keeps this many bytes were gathered to the start of a buffer, without a step
 abbrev pub IsGatheredOf : Kept → ℕ → ℕ → ℕ → List ℕ → List ℕ → Type 0
 IsGatheredOf (Err h) q cid count old buffer = ⊥
 IsGatheredOf (Ok t) q cid count old buffer = IsGathered (finished_at q cid t.finished) count old buffer
 
--- there is no such command, or what it brought does not fit so many bytes
+-- there is no such command, or what it brought does not fit this many bytes
 abbrev pub IsUngatheredOf : Kept → ℕ → ℕ → ℕ → Type 0
 IsUngatheredOf (Err h) q cid room = ⊤
 IsUngatheredOf (Ok t) q cid room = IsUngathered (finished_at q cid t.finished) room

@@ -1,4 +1,4 @@
--- How a call has what a whole command came to: the bytes of a Read stand at the front of its buffer, or are a list.
+-- How a call has what a whole command came to: the bytes of a Read are at the start of its buffer, or are a list.
 use Rattle.std.specs.Prelude.{◌≡◌, ⊤, ◌⊎◌, ◌++◌, ◌<◌, ◌≤◌, ℕ, Option, Some, None, Result, Ok, Err, List, [], drop, length, take}
 use Rattle.io_commands.specs.Values.{FinishedContents}
 use Rattle.nvmesgl_c.specs.{Answers.{nothing, collected}, Gathering.IsUngathered, MachineWhole.Outcome, declared.words.answer.Answer.Answer}
@@ -14,7 +14,7 @@ abbrev pub count_of : Brought → ℕ
 count_of (Laid count) = count
 count_of (Listed bytes) = length bytes
 
--- what was laid stands in front of what is left of the buffer; else nothing of it changed
+-- what was laid comes before what is left of the buffer; else nothing of it changed
 abbrev pub IsLaid : Brought → List ℕ → List ℕ → Type 0
 IsLaid (Laid count) old buffer = (count ≤ length old) × (count ≤ length buffer) × (buffer ≡ take count buffer ++ drop count old)
 IsLaid (Listed bytes) old buffer = buffer ≡ old
@@ -32,7 +32,7 @@ abbrev pub IsCarriedKept : Result Carried ℕ → List ℕ → List ℕ → Type
 IsCarriedKept (Ok carried) old buffer = IsCarried carried old buffer
 IsCarriedKept (Err code) old buffer = buffer ≡ old
 
--- how it came out
+-- how it turned out
 abbrev pub outcome_of : Carried → List ℕ → Outcome
 outcome_of (Ended status hints brought) buffer = whole.Ended status hints (brought_in brought buffer)
 outcome_of (NotReserved why) buffer = whole.NotReserved why
@@ -65,7 +65,7 @@ abbrev pub listed_in : Result Carried ℕ → Option (List ℕ)
 listed_in (Ok (Ended status hints (Listed bytes))) = Some bytes
 listed_in carried = None
 
--- they are laid at the front of a buffer, where they fit, with the code of the command; what was laid before stays
+-- they are laid at the start of a buffer, where they fit, with the code of the command; what was laid before stays
 abbrev pub LaysListed : Option (List ℕ) → ℕ → ℕ → List ℕ → List ℕ → Type 0
 LaysListed (Some bytes) own code old new = ((length old < length bytes) × (code ≡ 5) × (new ≡ old)) ⊎ ((code ≡ own) × (new ≡ bytes ++ drop (length bytes) old))
 LaysListed None own code old new = (code ≡ own) × (new ≡ old)

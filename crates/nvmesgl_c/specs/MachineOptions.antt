@@ -28,12 +28,12 @@ pub record IsOpened (o : Options) (bytes : List ℕ) (new : Table) : Type 0 wher
   pub config : refusal_of_config (config_of o) ≡ None
   pub opened : new ≡ table (opening_of (config_of o) (image_of o.blocks bytes))
 
--- an opening that nothing about the handle stands against, or one that its handle is refused for
+-- an opening that nothing about the handle prevents, or one that its handle is refused for
 abbrev pub OpensBy : Option ℕ → Kept → Options → List ℕ → ℕ → Answer → Kept → Type 0
 OpensBy (Some cause) t o bytes code answer new = (code ≡ cause) × (answer ≡ nothing) × (new ≡ t)
 OpensBy None t o bytes code answer (Ok new) = (code ≡ 0) × (answer ≡ nothing) × IsOpened o bytes new
 OpensBy None t o bytes code answer (Err h) = (why : NotOpened) × IsWhy o bytes why × (code ≡ code_of_not_opened why) × (answer ≡ told_not_opened why) × (t ≡ Err h)
 
--- an opening: a handle that is open, or is none of this kind, stays as it is; one that is closed opens, or stays closed for a cause that is told
+-- an opening: a handle that is open, or is not of this kind, stays as it is; one that is closed opens, or stays closed for a cause that is told
 abbrev pub Opens : Kept → Options → List ℕ → ℕ → Answer → Kept → Type 0
 Opens t o bytes code answer new = OpensBy (cause_in t) t o bytes code answer new

@@ -27,7 +27,7 @@ refusal_in r = None
 abbrev pub most_steps : ℕ
 most_steps = 65536
 
--- when it ended behind these steps: at rest (where nothing was forged), with as many steps as a call makes, or with the first refusal
+-- when it ended after these steps: at rest (where nothing was forged), with as many steps as a call makes, or with the first refusal
 abbrev pub EndsBy : List Reply → Table → ServeEnd → Type 0
 EndsBy replies new serve_end.Rest = IsTrue new.world.trusted → IsAtRest new.world
 EndsBy replies new serve_end.More = length replies ≡ most_steps

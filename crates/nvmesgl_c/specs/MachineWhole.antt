@@ -49,14 +49,14 @@ abbrev pub AllDone : Table → List Step → Table → Type 0
 AllDone t [] new = new ≡ t
 AllDone t (what ∷ steps) new = (r : Reply) × (mid : Table) × Does t what r mid × (is_done what r ≡ true) × AllDone mid steps new
 
--- the first of these steps that was not done has this reply, and those behind it were not made
+-- the first of these steps that was not done has this reply, and those after it were not made
 abbrev pub FirstFails : Table → List Step → Reply → Table → Type 0
 FirstFails t [] why new = ⊥
 FirstFails t (what ∷ steps) why new =
     (Does t what why new × (is_done what why ≡ false))
     ⊎ ((r : Reply) × (mid : Table) × Does t what r mid × (is_done what r ≡ true) × FirstFails mid steps why new)
 
--- what a submitted command waits for: its queue is rung, the controller serves, and the queue is reaped until the command has ended
+-- what a submitted command waits for: its queue's doorbell is written, the controller serves, and the queue is reaped until the command has ended
 
 -- whether nothing more is reaped for a command: it has ended, there is no completion, or a reap was refused
 abbrev pub stops : ℕ → Reply → Bool
@@ -119,7 +119,7 @@ pub record GivesUp (t : Table) (q cid : ℕ) (bytes : Option (List ℕ)) (why : 
   pub fails : FirstFails t (begin_steps q cid bytes) why stopped
   pub cancels : Does stopped (step.Cancel q cid) answer new
 
--- how a whole command came out
+-- how a whole command turned out
 pub data Outcome : Type 0 where
   -- it ended, its bytes were gathered, and it was released
   Ended : Status → Hints → (gathered : List ℕ) → Outcome
@@ -130,7 +130,7 @@ pub data Outcome : Type 0 where
   -- it is outstanding, and what was answered that was not done
   Left : (cid : ℕ) → Reply → Outcome
 
--- how a reserved command came out
+-- how a reserved command turned out
 abbrev pub ComesOut : Table → ℕ → ℕ → Option (List ℕ) → Outcome → Table → Type 0
 ComesOut t q cid bytes (Ended status hints gathered) new = (gone : Table) × Runs t q cid bytes gone × Finishes gone q cid status hints gathered new
 ComesOut t q cid bytes (NotReserved why) new = ⊥
@@ -191,7 +191,7 @@ pub record Sends (t : Kept) (q : ℕ) (kind : Kind) (slba : ℕ) (bytes : List �
   pub code_is : code ≡ code_of carried
   pub answer_is : answer ≡ told_of_kept carried
 
--- a Read's bytes at the front of a buffer, where they fit
+-- a Read's bytes at the start of a buffer, where they fit
 abbrev pub LaidOf : Result Outcome ℕ → ℕ → List ℕ → List ℕ → Type 0
 LaidOf (Ok (Ended status hints gathered)) code old new =
     ((length old < length gathered) × (code ≡ 5) × (new ≡ old)) ⊎ ((code ≡ 0) × (new ≡ gathered ++ drop (length gathered) old))

@@ -2,7 +2,7 @@
 use Rattle.std.specs.Prelude.{ℕ, ◌^◌, Some, if◌then◌else◌, nat_lt}
 use Rattle.page_memory.specs.Memory.{Memory}
 
--- the first place behind those that a call of 4,096 bytes reaches from any address of 64 bits, and more
+-- the first place after those that a call of 4,096 bytes reaches from any address of 64 bits, and more
 abbrev pub beyond : ℕ
 beyond = 2 ^ 65
 

@@ -12,7 +12,7 @@ past_pages = 17592186044416
 abbrev pub has_byte : CRegion → ℕ → Bool
 has_byte region place = nat_le region.addr place && nat_lt place (region.addr + length region.bytes.now)
 
--- at an address stands the byte of the first region that has one there
+-- at an address is the byte of the first region that has one there
 abbrev pub byte_in : List CRegion → Memory
 byte_in [] place = None
 byte_in (region ∷ regions) place =
@@ -33,7 +33,7 @@ pages_of (region ∷ regions) = max (pages_up_to region) (pages_of regions)
 abbrev pub IsClear : CRegion → ℕ → ℕ → Type 0
 IsClear region addr count = (k : ℕ) → k < count → has_byte region (addr + k) ≡ false
 
--- what a region has of a range of so many bytes at most: bytes at its front, or none of so many
+-- what a region has of a range of this many bytes at most: bytes at its start, or none of this many
 abbrev pub IsShare : CRegion → ℕ → ℕ → Share → Type 0
 IsShare region addr most (Front at count) =
     (region.addr + at ≡ addr) × (at + count ≤ length region.bytes.now) × (0 < count) × (count ≤ most)
@@ -45,7 +45,7 @@ pub record IsMissing (regions : List CRegion) (addr count : ℕ) : Type 0 where
   pub within : place < count
   pub none : byte_in regions (addr + place) ≡ None
 
--- bytes from an address on, at most so many, that one region has, while none before it has any of them
+-- bytes starting at an address, at most this many, that one region has, while none before it has any of them
 pub record IsRun (regions : List CRegion) (addr most : ℕ) (run : Run) : Type 0 where
   pub region : CRegion
   pub found : slice_get regions run.place ≡ Some region

@@ -14,7 +14,7 @@ is_no_piece p = nat_lt 1 p.kind
 abbrev pub piece_of : CPiece → Piece
 piece_of p = if p.kind == 0 then piece.Data p.offset p.len else piece.Bucket p.len
 
--- of more pieces than a command has, one more than that is looked at
+-- of more pieces than a command has, one more than that is read
 abbrev pub looked_at : List CPiece → List CPiece
 looked_at pieces = take 1025 pieces
 
@@ -69,7 +69,7 @@ asked_by true false (Some f) (Some z) (Some k) true r pieces = Err 56
 asked_by true false (Some f) (Some z) (Some k) false r pieces =
     Ok (record { kind = k; nsid = namespace_of r.nsid; flags = f; slba = r.slba; block_size = z; blocks = r.blocks; pieces = map piece_of pieces })
 
--- the request, or the code of the first that stands against it
+-- the request, or the code of the first obstacle
 abbrev pub asked_of : CRequest → List CPiece → Result Request ℕ
 asked_of r pieces = asked_by (r.size == 48) (list_any is_set r.reserved) (flags_of r.flags) (size_of_bytes r.block_bytes) (kind_of r.kind) (list_any is_no_piece pieces) r pieces
 
@@ -78,7 +78,7 @@ abbrev pub IsMade : Result Request ℕ → Result Request ℕ → Type 0
 IsMade (Err code) made = made ≡ Err code
 IsMade (Ok request) made = (made ≡ Ok request) ⊎ (made ≡ Err 15)
 
--- The request of so many bytes in a row
+-- The request of this many bytes in a row
 
 -- a piece for each page that they fill, and one for what is left
 abbrev pub pieces_of_length : ℕ → List Piece

@@ -1,7 +1,8 @@
 //! Both sides over one pool, for C: `c/nvmesgl.h` declares what is exported here.
 //!
 //! A [`Handle`] is a [`world_bench::Bench`] that C keeps between its calls, or none. Each call that is a step is that step of the bench, and
-//! its contract says so in one relation: what stands in the handle before and after, the code, and the [`crate::words::Answer`] that is written. A call that is not done changes nothing.
+//! its contract says so in one relation: what is in the handle before and after, the code, and the [`crate::words::Answer`] that is written. A call
+//! that is not done changes nothing.
 
 mod answer;
 mod carrying;

@@ -1,4 +1,4 @@
-//! What the C libraries stand on: codes, answers and requests as C writes them (`c/nvmesgl.h` declares the same), and
+//! What the C libraries build on: codes, answers and requests as C writes them (`c/nvmesgl.h` declares the same), and
 //! memory that C lends.
 
 /// The value of a result; where it is a code, the function returns that.

@@ -38,7 +38,7 @@ filter-next f i =
     ap (filter f) (pages_from-more 0 i) ∙ (filter-append f (pages_from 0 i) ((0 + i) ∷ [])
     ∙ ap (λ (q : ℕ). filter f (pages_from 0 i) ++ cond (f q) (q ∷ []) []) (omega arith))
 
--- the first so many that pass, where the walk stopped early
+-- the first k that pass, where the walk stopped early
 pub front_taken : (f : ℕ → Bool) (i n k : ℕ) → i ≤ n → length (filter f (pages_from 0 i)) ≡ k → take k (filter f (pages_from 0 n)) ≡ filter f (pages_from 0 i)
 front_taken f i n k l count =
     ap (take k) (ap (filter f) (pages_from-split 0 i n l) ∙ filter-append f (pages_from 0 i) (pages_from (0 + i) (n - i)))
@@ -47,14 +47,14 @@ front_taken f i n k l count =
 -- what passes is among the pages
 pub filter-within : (f : ℕ → Bool) (b n k d : ℕ) → k < length (filter f (pages_from b n)) → (b ≤ get_or (filter f (pages_from b n)) k d) × (get_or (filter f (pages_from b n)) k d < b + n)
 filter-within f b zero k d l = absurd (omega arith)
-filter-within f b (suc n) k d l = go (f b) k l (λ j m. filter-within f (b + 1) n j d m)
+filter-within f b (suc n) k d l = by_test (f b) k l (λ j m. filter-within f (b + 1) n j d m)
   where
-    go : (c : Bool) (j : ℕ) → j < length (cond c (b ∷ filter f (pages_from (b + 1) n)) (filter f (pages_from (b + 1) n)))
+    by_test : (c : Bool) (j : ℕ) → j < length (cond c (b ∷ filter f (pages_from (b + 1) n)) (filter f (pages_from (b + 1) n)))
         → ((i : ℕ) → i < length (filter f (pages_from (b + 1) n)) → (b + 1 ≤ get_or (filter f (pages_from (b + 1) n)) i d) × (get_or (filter f (pages_from (b + 1) n)) i d < b + 1 + n))
         → (b ≤ get_or (cond c (b ∷ filter f (pages_from (b + 1) n)) (filter f (pages_from (b + 1) n))) j d) × (get_or (cond c (b ∷ filter f (pages_from (b + 1) n)) (filter f (pages_from (b + 1) n))) j d < b + suc n)
-    go true zero m ih = (omega arith, omega arith)
-    go true (suc j) m ih = let w = ih j (omega arith) in (omega arith, omega arith)
-    go false j m ih = let w = ih j m in (omega arith, omega arith)
+    by_test true zero m ih = (omega arith, omega arith)
+    by_test true (suc j) m ih = let w = ih j (omega arith) in (omega arith, omega arith)
+    by_test false j m ih = let w = ih j m in (omega arith, omega arith)
 
 -- each page that passes is there
 pub filter-contains : (f : ℕ → Bool) (b n p : ℕ) → b ≤ p → p < b + n → f p ≡ true → Contains (filter f (pages_from b n)) p
@@ -69,24 +69,24 @@ filter-contains f b (suc n) p low high passes = elim (cases_eq b p) [
 -- what passes is in rising order
 pub filter_rising : (f : ℕ → Bool) (b n : ℕ) → IsStrictlyIncreasing (filter f (pages_from b n))
 filter_rising f b zero k l = absurd (omega arith)
-filter_rising f b (suc n) k l = go (f b) k l (filter_rising f (b + 1) n) (λ i d m. filter-within f (b + 1) n i d m)
+filter_rising f b (suc n) k l = by_test (f b) k l (filter_rising f (b + 1) n) (λ i d m. filter-within f (b + 1) n i d m)
   where
     rest : List ℕ
     rest = filter f (pages_from (b + 1) n)
 
-    go : (c : Bool) (k : ℕ) → k + 1 < length (cond c (b ∷ rest) rest) → IsStrictlyIncreasing rest
+    by_test : (c : Bool) (k : ℕ) → k + 1 < length (cond c (b ∷ rest) rest) → IsStrictlyIncreasing rest
         → ((i d : ℕ) → i < length rest → (b + 1 ≤ get_or rest i d) × (get_or rest i d < b + 1 + n))
         → get_or (cond c (b ∷ rest) rest) k 0 < get_or (cond c (b ∷ rest) rest) (k + 1) 0
-    go false k l ih within = ih k l
-    go true zero l ih within = let w = within 0 0 (omega arith) in omega arith
-    go true (suc k) l ih within =
+    by_test false k l ih within = ih k l
+    by_test true zero l ih within = let w = within 0 0 (omega arith) in omega arith
+    by_test true (suc k) l ih within =
         let e : suc k + 1 ≡ suc (k + 1) = omega arith in
         rw e (ih k (omega arith))
 
 -- where the first page that passed doesn't pass any more, and all others are as they were
 pub filter-without_first : (f g : ℕ → Bool) (b n p : ℕ) (rest : List ℕ) → filter f (pages_from b n) ≡ p ∷ rest → g p ≡ false → ((q : ℕ) → q ≢ p → g q ≡ f q) → filter g (pages_from b n) ≡ rest
 filter-without_first f g b zero p rest e off others = cc
-filter-without_first f g b (suc n) p rest e off others = go (f b) refl e (filter-without_first f g (b + 1) n p rest)
+filter-without_first f g b (suc n) p rest e off others = by_test (f b) refl e (filter-without_first f g (b + 1) n p rest)
   where
     F : List ℕ
     F = filter f (pages_from (b + 1) n)
@@ -94,13 +94,13 @@ filter-without_first f g b (suc n) p rest e off others = go (f b) refl e (filter
     G : List ℕ
     G = filter g (pages_from (b + 1) n)
 
-    go : (c : Bool) → f b ≡ c → cond c (b ∷ F) F ≡ p ∷ rest → (F ≡ p ∷ rest → g p ≡ false → ((q : ℕ) → q ≢ p → g q ≡ f q) → G ≡ rest) → cond (g b) (b ∷ G) G ≡ rest
-    go true at h ih =
+    by_test : (c : Bool) → f b ≡ c → cond c (b ∷ F) F ≡ p ∷ rest → (F ≡ p ∷ rest → g p ≡ false → ((q : ℕ) → q ≢ p → g q ≡ f q) → G ≡ rest) → cond (g b) (b ∷ G) G ≡ rest
+    by_test true at h ih =
         let same : b ≡ p = cc in
         let left : F ≡ rest = cc in
         let here : g b ≡ false = subst (λ (q : ℕ). g q ≡ false) (sym same) off in
         rw here (filter-agree g f (b + 1) n (λ q low high. others q (omega arith)) ∙ left)
-    go false at h ih = rw (closed (cases_eq b p)) (ih h off others)
+    by_test false at h ih = rw (closed (cases_eq b p)) (ih h off others)
       where
         closed : (b ≡ p) ⊎ (b ≢ p) → g b ≡ false
         closed (inl same) = subst (λ (q : ℕ). g q ≡ false) (sym same) off
@@ -143,7 +143,7 @@ pub filter-found : (f : ℕ → Bool) (from p : ℕ) → from ≤ p → ((q : �
 filter-found f from p low none passes =
     filter-next f p ∙ (ap (λ c. filter f (pages_from 0 p) ++ cond c (p ∷ []) []) passes ∙ ap (λ l. l ++ p ∷ []) (filter-gap f from p low none))
 
--- consecutive pages by their places
+-- consecutive pages by their positions
 
 pub length-pages_from : (p k : ℕ) → length (pages_from p k) ≡ k
 length-pages_from p zero = refl
@@ -184,20 +184,20 @@ run-within k p owners some run = omega (arith, slice_get_within owners (p + (k -
 -- what is found
 
 pub lowest_run-is : (k p : ℕ) (owners : List Owner) → 0 < k → is_free_run k owners p ≡ true → ((q : ℕ) → q < p → is_free_run k owners q ≡ false) → lowest_run k owners ≡ Some p
-lowest_run-is k p owners some run lower = go (find-cases (is_free_run k owners) 0 (length owners))
+lowest_run-is k p owners some run lower = by_search (find-cases (is_free_run k owners) 0 (length owners))
   where
     inside : p < length owners
     inside = omega (arith, run-within k p owners some (run-from k p owners run))
 
-    go : ((r : ℕ) × (0 ≤ r) × (r < 0 + length owners) × (is_free_run k owners r ≡ true) × ((q : ℕ) → 0 ≤ q → q < r → is_free_run k owners q ≡ false) × (lowest_run k owners ≡ Some r))
+    by_search : ((r : ℕ) × (0 ≤ r) × (r < 0 + length owners) × (is_free_run k owners r ≡ true) × ((q : ℕ) → 0 ≤ q → q < r → is_free_run k owners q ≡ false) × (lowest_run k owners ≡ Some r))
         ⊎ (((q : ℕ) → 0 ≤ q → q < 0 + length owners → is_free_run k owners q ≡ false) × (lowest_run k owners ≡ None)) → lowest_run k owners ≡ Some p
-    go (inl (r, low, high, passes, before, is)) = is ∙ ap (λ (q : ℕ). Some q) (same (cases_lt r p) (cases_lt p r))
+    by_search (inl (r, low, high, passes, before, is)) = is ∙ ap (λ (q : ℕ). Some q) (same (cases_lt r p) (cases_lt p r))
       where
         same : (r < p) ⊎ (p ≤ r) → (p < r) ⊎ (r ≤ p) → r ≡ p
         same (inl below) other = absurd (true≢false (sym passes ∙ lower r below))
         same (inr from) (inl below) = absurd (true≢false (sym run ∙ before p (omega arith) below))
         same (inr from) (inr upto) = omega arith
-    go (inr (all, is)) = absurd (true≢false (sym run ∙ all p (omega arith) (omega (arith, inside))))
+    by_search (inr (all, is)) = absurd (true≢false (sym run ∙ all p (omega arith) (omega (arith, inside))))
 
 pub lowest_run-none : (k : ℕ) (owners : List Owner) → ((q : ℕ) → q < length owners → is_free_run k owners q ≡ false) → lowest_run k owners ≡ None
 lowest_run-none k owners none = elim (find-cases (is_free_run k owners) 0 (length owners)) [
@@ -206,11 +206,11 @@ lowest_run-none k owners none = elim (find-cases (is_free_run k owners) 0 (lengt
 ]
 
 pub finds_lowest : (k : ℕ) (owners : List Owner) → 0 < k → FindsLowestRun k owners
-finds_lowest k owners some = go (find-cases (is_free_run k owners) 0 (length owners))
+finds_lowest k owners some = by_search (find-cases (is_free_run k owners) 0 (length owners))
   where
-    go : ((r : ℕ) × (0 ≤ r) × (r < 0 + length owners) × (is_free_run k owners r ≡ true) × ((q : ℕ) → 0 ≤ q → q < r → is_free_run k owners q ≡ false) × (lowest_run k owners ≡ Some r))
+    by_search : ((r : ℕ) × (0 ≤ r) × (r < 0 + length owners) × (is_free_run k owners r ≡ true) × ((q : ℕ) → 0 ≤ q → q < r → is_free_run k owners q ≡ false) × (lowest_run k owners ≡ Some r))
         ⊎ (((q : ℕ) → 0 ≤ q → q < 0 + length owners → is_free_run k owners q ≡ false) × (lowest_run k owners ≡ None)) → FindsLowestRun k owners
-    go (inl (r, low, high, passes, before, is)) = record { found = found; none = none }
+    by_search (inl (r, low, high, passes, before, is)) = record { found = found; none = none }
       where
         here : IsLowestRun k owners r
         here = record { run = run-from k r owners passes; lowest = lowest }
@@ -229,7 +229,7 @@ finds_lowest k owners some = go (find-cases (is_free_run k owners) 0 (length own
 
         none : (lowest_run k owners ≡ None) ↔ ((p : ℕ) → IsFreeRun k owners p → ⊥)
         none = ((λ e. absurd (none-some r (sym e ∙ is))), (λ never. absurd (never r here.run)))
-    go (inr (all, is)) = record { found = found; none = ((λ e. never), (λ h. is)) }
+    by_search (inr (all, is)) = record { found = found; none = ((λ e. never), (λ h. is)) }
       where
         never : (p : ℕ) → IsFreeRun k owners p → ⊥
         never p run = true≢false (sym (run-test k p owners run) ∙ all p (omega arith) (omega (arith, run-within k p owners some run)))

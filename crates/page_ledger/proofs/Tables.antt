@@ -46,12 +46,12 @@ slice_get-set_cases [] i x = inr refl
 slice_get-set_cases (y ∷ xs) zero x = inl refl
 slice_get-set_cases (y ∷ xs) (suc i) x = slice_get-set_cases xs i x
 
--- the element behind a front
+-- the element after a prefix
 slice_get-behind : {X : Type 0} (xs ys : List X) (y : X) → slice_get (xs ++ y ∷ ys) (length xs) ≡ Some y
 slice_get-behind [] ys y = refl
 slice_get-behind (x ∷ xs) ys y = slice_get-behind xs ys y
 
--- further behind, the element after the front plays no part
+-- further on, the element after the prefix plays no part
 slice_get-past : {X : Type 0} (xs ys : List X) (x y : X) (i : ℕ) → length xs + 1 ≤ i → slice_get (xs ++ x ∷ ys) i ≡ slice_get (xs ++ y ∷ ys) i
 slice_get-past [] ys x y zero l = absurd (omega arith)
 slice_get-past [] ys x y (suc i) l = refl
@@ -114,7 +114,7 @@ with_owner-more owners now p i owner is =
     ap (λ (l : List Owner). slice_set l (p + i) owner) is
     ∙ (sym (with_owner-append owners (pages_from p i) ((p + i) ∷ []) owner) ∙ ap (λ l. with_owner owners l owner) (sym (pages_from-more p i)))
 
--- a walk over a table behind a front, where the front plays no part
+-- a walk over a table after a prefix, where the prefix plays no part
 walk : (Owner → Bool) → List Owner → List Owner → List ℕ
 walk test front owners = filter (is_owned_at test (front ++ owners)) (pages_from (length front) (length owners))
 
@@ -146,13 +146,13 @@ pub length-pages_owned : (test : Owner → Bool) (owners : List Owner) → lengt
 unfolding walk
 length-pages_owned test owners = walk-count test [] owners
 
--- a give-back writes just at the pages of the named owners
+-- a give-back writes only at the pages of the named owners
 given-walk : (named : Owner → Bool) (front owners : List Owner) → with_owner (front ++ owners) (walk named front owners) Free ≡ front ++ given_back named owners
 unfolding walk
 given-walk named front [] = refl
 given-walk named front (owner ∷ owners) =
     ap (λ l. with_owner (front ++ owner ∷ owners) l Free) (walk-cons named front owners owner)
-    ∙ go (named owner) (λ (o : Owner). given-walk named (front ++ o ∷ []) owners)
+    ∙ by_owner (named owner) (λ (o : Owner). given-walk named (front ++ o ∷ []) owners)
   where
     same : (o : Owner) → walk named (front ++ owner ∷ []) owners ≡ walk named (front ++ o ∷ []) owners
     same o =
@@ -166,13 +166,13 @@ given-walk named front (owner ∷ owners) =
         → with_owner (front ++ o ∷ owners) (walk named (front ++ o ∷ []) owners) Free ≡ front ++ o ∷ given_back named owners
     behind o ih = ap (λ l. with_owner l (walk named (front ++ o ∷ []) owners) Free) (sym (append_assoc front (o ∷ []) owners)) ∙ (ih ∙ append_assoc front (o ∷ []) (given_back named owners))
 
-    go : (c : Bool) → ((o : Owner) → with_owner ((front ++ o ∷ []) ++ owners) (walk named (front ++ o ∷ []) owners) Free ≡ (front ++ o ∷ []) ++ given_back named owners)
+    by_owner : (c : Bool) → ((o : Owner) → with_owner ((front ++ o ∷ []) ++ owners) (walk named (front ++ o ∷ []) owners) Free ≡ (front ++ o ∷ []) ++ given_back named owners)
         → with_owner (front ++ owner ∷ owners) (cond c (length front ∷ walk named (front ++ owner ∷ []) owners) (walk named (front ++ owner ∷ []) owners)) Free
         ≡ front ++ (if c then Free else owner) ∷ given_back named owners
-    go true ih =
+    by_owner true ih =
         ap (λ l. with_owner l (walk named (front ++ owner ∷ []) owners) Free) (slice_set-behind front owners Free owner)
         ∙ (ap (λ l. with_owner (front ++ Free ∷ owners) l Free) (same Free) ∙ behind Free (ih Free))
-    go false ih = behind owner (ih owner)
+    by_owner false ih = behind owner (ih owner)
 
 pub given_back_is : (named : Owner → Bool) (owners : List Owner) → given_back named owners ≡ with_owner owners (pages_owned named owners) Free
 unfolding walk
@@ -192,12 +192,12 @@ free_given_back named owners =
 -- the free pages after a grant
 pub free_granted : (k : ℕ) (owner : Owner) (owners : List Owner) → is_free owner ≡ false → free_pages (with_owner owners (take k (free_pages owners)) owner) ≡ drop k (free_pages owners)
 free_granted zero owner owners busy = refl
-free_granted (suc k) owner owners busy = go (free_pages owners) refl (λ (l : List Owner). free_granted k owner l busy)
+free_granted (suc k) owner owners busy = by_free_pages (free_pages owners) refl (λ (l : List Owner). free_granted k owner l busy)
   where
-    go : (free : List ℕ) → free_pages owners ≡ free → ((l : List Owner) → free_pages (with_owner l (take k (free_pages l)) owner) ≡ drop k (free_pages l))
+    by_free_pages : (free : List ℕ) → free_pages owners ≡ free → ((l : List Owner) → free_pages (with_owner l (take k (free_pages l)) owner) ≡ drop k (free_pages l))
         → free_pages (with_owner owners (take (suc k) free) owner) ≡ drop (suc k) free
-    go [] e ih = e
-    go (p ∷ rest) e ih =
+    by_free_pages [] e ih = e
+    by_free_pages (p ∷ rest) e ih =
         ap (λ l. free_pages (with_owner (slice_set owners p owner) (take k l) owner)) (sym left) ∙ (ih (slice_set owners p owner) ∙ ap (drop k) left)
       where
         taken : is_owned_at is_free (slice_set owners p owner) p ≡ false
@@ -223,7 +223,7 @@ given_below-all named zero (owner ∷ owners) e = absurd (omega arith)
 given_below-all named (suc n) [] e = refl
 given_below-all named (suc n) (owner ∷ owners) e = ap (λ l. (if named owner then Free else owner) ∷ l) (given_below-all named n owners (omega arith))
 
--- the page p isn't looked at yet
+-- the page p is not examined yet
 pub given_below-here : (named : Owner → Bool) (p : ℕ) (owners : List Owner) → slice_get (given_below named p owners) p ≡ slice_get owners p
 given_below-here named zero owners = refl
 given_below-here named (suc p) [] = refl
@@ -303,12 +303,12 @@ pub free-others : (pages : List ℕ) (owner : Owner) (owners : List Owner) → i
 free-others pages owner owners busy =
     ap (λ (n : ℕ). filter (is_owned_at is_free (with_owner owners pages owner)) (pages_from 0 n)) (length-with_owner owners pages owner)
     ∙ (filter-agree (is_owned_at is_free (with_owner owners pages owner)) (λ p. is_owned_at is_free owners p && not (is_among pages p)) 0 (length owners)
-    (λ p low high. ap (λ o. option_map_or is_free o false) (owner-with owners pages owner p (omega arith)) ∙ go p (is_among pages p))
+    (λ p low high. ap (λ o. option_map_or is_free o false) (owner-with owners pages owner p (omega arith)) ∙ by_presence p (is_among pages p))
     ∙ sym (filter-filter (is_owned_at is_free owners) (λ p. not (is_among pages p)) (pages_from 0 (length owners))))
   where
-    go : (p : ℕ) (c : Bool) → option_map_or is_free (if c then Some owner else owner_at owners p) false ≡ (is_owned_at is_free owners p && not c)
-    go p true = grind (arith, busy)
-    go p false = grind arith
+    by_presence : (p : ℕ) (c : Bool) → option_map_or is_free (if c then Some owner else owner_at owners p) false ≡ (is_owned_at is_free owners p && not c)
+    by_presence p true = grind (arith, busy)
+    by_presence p false = grind arith
 
 -- the free pages by a Bool for each page
 

@@ -15,11 +15,11 @@ pub record ChangesJust (owners : List Owner) (pages : List ℕ) (owner : Owner) 
   pub others : (p : ℕ) → (Contains pages p → ⊥) → owner_at (with_owner owners pages owner) p ≡ owner_at owners p
   pub size : length (with_owner owners pages owner) ≡ length owners
 
--- The k pages from p on are in the pool and free.
+-- The k pages starting at p are in the pool and free.
 pub record IsFreeRun (k : ℕ) (owners : List Owner) (p : ℕ) : Type 0 where
   pub free : (i : ℕ) → i < k → owner_at owners (p + i) ≡ Some Free
 
--- The k pages from p on are free, and no run of k begins lower.
+-- The k pages starting at p are free, and no run of k begins lower.
 pub record IsLowestRun (k : ℕ) (owners : List Owner) (p : ℕ) : Type 0 where
   pub run : IsFreeRun k owners p
   pub lowest : (q : ℕ) → IsFreeRun k owners q → p ≤ q

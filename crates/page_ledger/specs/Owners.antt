@@ -1,4 +1,4 @@
--- Who owns each page of a pool: the owner of page p stands at place p of a list.
+-- Who owns each page of a pool: the owner of page p is at index p of a list.
 use Rattle.std.specs.{List.list_any, Option.option_map_or}
 use Rattle.std.specs.Prelude.{◌+◌, ◌==◌, ◌&&◌, Bool, true, false, List, [], ◌∷◌, ℕ, zero, suc, Option, filter, if◌then◌else◌, length, map, slice_get, slice_set}
 use Rattle.page_memory.specs.declared.page.Half.{Half, TheVariants.{Submission, Completion}}
@@ -14,7 +14,7 @@ is_free Free = true
 is_free (Queue q half) = false
 is_free (Command q cid role) = false
 
--- whether two rings are the same of the two
+-- whether two rings are the same one
 abbrev pub is_same_half : Half → Half → Bool
 is_same_half Submission Submission = true
 is_same_half Submission Completion = false

@@ -15,7 +15,7 @@ pub fn changes_just()
     ensures { (owners : List Owner) (pages : List ℕ) (owner : Owner) → ChangesJust owners pages owner }
 {}
 
-/// What `lowest_run` finds is the lowest run of so many free pages, and it finds nothing exactly where there is none.
+/// What `lowest_run` finds is the lowest run of this many free pages, and it finds nothing exactly where there is none.
 pub fn finds_lowest_run()
     ensures { (k : ℕ) (owners : List Owner) → 0 < k → FindsLowestRun k owners }
 {}

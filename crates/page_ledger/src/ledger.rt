@@ -37,7 +37,7 @@ impl<A: Allocator> Model for Ledger<A> {
 }
 
 impl<A: Allocator + Clone> Ledger<A> {
-    /// Opens a pool of so many pages, all of them free.
+    /// Opens a pool of this many pages, all of them free.
     ///
     /// # Errors
     ///

@@ -6,8 +6,8 @@
 //! (own). Only [`Ledger::open`] takes memory.
 //!
 //! `specs/Owners.antt` says which pages are free and what a grant and a give-back leave, `specs/Counting.antt` what is
-//! counted, `specs/Runs.antt` what the lowest run is, and `specs/Lists.antt` what a caller owes who names the pages that it gives
-//! back. The laws in [`laws`] tie these to one another, and [`worked`] runs them on small pools.
+//! counted, `specs/Runs.antt` what the lowest run is, and `specs/Lists.antt` what a caller who names the pages that it gives
+//! back must ensure. The laws in [`laws`] tie these to one another, and [`worked`] runs them on small pools.
 #![tactic(auto)]
 
 pub mod laws;

@@ -142,7 +142,7 @@ impl Group {
     }
 }
 
-/// Whether two rings are the same of the two.
+/// Whether two rings are the same one.
 fn same_half(a: Half, b: Half) -> bool
     ensures { result ≡ is_same_half a b }
 {

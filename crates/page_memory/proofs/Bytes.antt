@@ -139,7 +139,7 @@ unfolding bytes_at
 none_at m place zero out some = absurd (omega arith)
 none_at m place (suc n) out some = rw out refl
 
--- a range by its places
+-- a range by its addresses
 
 one_more : (place k : ℕ) → place + suc k ≡ place + 1 + k
 one_more place k = omega arith
@@ -175,7 +175,7 @@ missing_at m place (suc n) zero lt out = rw (subst (λ (q : ℕ). m q ≡ None) 
 missing_at m place (suc n) (suc k) lt out =
     rw (missing_at m (place + 1) n k (omega arith) (subst (λ (q : ℕ). m q ≡ None) (one_more place k) out)) (joined_none (m place))
 
--- a place of a list that is not empty lies in the list
+-- a position at which something is lies in the list
 pub slot_within : {X : Type 0} (slots : List (Option X)) (i : ℕ) → IsSome (slot_at slots i) → i < length slots
 slot_within [] i h = cc
 slot_within (x ∷ xs) zero h = omega arith
@@ -199,7 +199,7 @@ slice_get-set_same (y ∷ ys) (suc i) x h = slice_get-set_same ys i x (omega ari
 pub page_within : (pages : Pages) (p : ℕ) (page : List ℕ) → page_at pages p ≡ Some page → p < length pages
 page_within pages p page found = slot_within pages p (subst IsSome (sym found) refl)
 
--- a place inside the bytes that are written, and one outside
+-- an address inside the bytes that are written, and one outside
 pub written_in : (m : Memory) (place q : ℕ) (bytes : List ℕ) → place ≤ q → q < place + length bytes → written m place bytes q ≡ Some (get_or bytes (q - place) 0)
 written_in m place q bytes low high = grind (arith, nat_tests)
 
@@ -297,11 +297,11 @@ is_none-false e = cc
 
 -- a page that is in, as it is read from the list of pages
 read_page : (pages : Pages) (p : ℕ) (page : List ℕ) → Some page ≡ get_or pages p (Some page) → IsSome (page_at pages p) → page_at pages p ≡ Some page
-read_page pages p page read there = go (slice_get_cases pages p)
+read_page pages p page read there = by_presence (slice_get_cases pages p)
   where
-    go : (slice_get pages p ≡ slice_get pages p) × (((x : Option (List ℕ)) × (p < length pages) × (slice_get pages p ≡ Some x) × (get_or pages p x ≡ x)) ⊎ ((length pages ≤ p) × (slice_get pages p ≡ None))) → page_at pages p ≡ Some page
-    go (_, inl (x, within, found, is)) = rw (slice_get_read pages (length pages) p (Some page) refl within read) refl
-    go (_, inr (past, none)) = absurd (is_none-false (rw none at there))
+    by_presence : (slice_get pages p ≡ slice_get pages p) × (((x : Option (List ℕ)) × (p < length pages) × (slice_get pages p ≡ Some x) × (get_or pages p x ≡ x)) ⊎ ((length pages ≤ p) × (slice_get pages p ≡ None))) → page_at pages p ≡ Some page
+    by_presence (_, inl (x, within, found, is)) = rw (slice_get_read pages (length pages) p (Some page) refl within read) refl
+    by_presence (_, inr (past, none)) = absurd (is_none-false (rw none at there))
 
 with_found : (pages : Pages) (p at : ℕ) (new page : List ℕ) → page_at pages p ≡ Some page → with_page_bytes pages p at new ≡ set pages p (Some (with_bytes page at new))
 with_found pages p at new page found = rw found refl
@@ -328,7 +328,7 @@ wrote_both m m' m'' addr page at front bytes low high place border is_low is_hig
     let border' : 4096 * (page + 1) + 0 ≡ 4096 * page + at + front = sym (next_page page at front border) in
     second ∙ rw (first, border', ← count, written-append m (4096 * page + at) low high, place, is_low, is_high, take-append-drop front bytes) refl
 
--- one place of a list of slots, as it is written
+-- one position of a list of slots, as it is written
 pub slot_at-set : (slots : List (Option ℕ)) (i : ℕ) (b : ℕ) → i < length slots → slot_at (set slots i (Some b)) ≡ written (slot_at slots) i (b ∷ [])
 slot_at-set slots i b within =
     fun_ext (λ q. elim (cases_eq q i) [

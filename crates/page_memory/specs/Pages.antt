@@ -10,7 +10,7 @@ zero_page = replicate 4096 0
 abbrev pub Pages : Type 0
 Pages = List (Option (List ℕ))
 
--- what stands at an index of a list in which some places are empty
+-- what is at an index of a list in which some positions are empty
 abbrev pub slot_at : {X : Type 0} → List (Option X) → ℕ → Option X
 slot_at slots i = option_and_then (λ slot. slot) (slice_get slots i)
 
@@ -18,11 +18,11 @@ slot_at slots i = option_and_then (λ slot. slot) (slice_get slots i)
 abbrev pub page_at : Pages → ℕ → Option (List ℕ)
 page_at pages p = slot_at pages p
 
--- the byte at a place, or nothing where the place is outside the pool or its page is out
+-- the byte at an address, or nothing where the address is outside the pool or its page is out
 abbrev pub byte_at : Pages → Memory
 byte_at pages place = option_and_then (λ bytes. slice_get bytes (place % 4096)) (page_at pages (page_of place))
 
--- a page with these bytes from an offset on
+-- a page with these bytes starting at an offset
 abbrev pub with_bytes : List ℕ → ℕ → List ℕ → List ℕ
 with_bytes page at new = take at page ++ new ++ drop (at + length new) page
 
@@ -32,7 +32,7 @@ pub record Contents : Type 0 where
   pub touched : List ℕ
   pub unlisted : ℕ
 
--- the pool with these bytes in one page, which is in, from an offset on
+-- the pool with these bytes in one page, which is in, starting at an offset
 abbrev pub with_page_bytes : Pages → ℕ → ℕ → List ℕ → Pages
 with_page_bytes pages p at new = slice_set pages p (option_and_then (λ page. Some (with_bytes page at new)) (page_at pages p))
 

@@ -16,11 +16,11 @@ pub struct Unreadable;
 ///
 /// A call moves 1 to 4,096 bytes, which lie in one page or in two neighbouring ones, and appends the numbers of these pages to
 /// the touched list, in order; before each call that list has room for two. A refused call moves no byte and
-/// touches no page. Any 64-bit address may be given: one near 2^64 is an ordinary missing place.
+/// touches no page. Any 64-bit address may be given: one near 2^64 is an ordinary missing address.
 pub trait Dma {
     ghost use Rattle.std.specs.Prelude.{ℕ, List, Option};
 
-    // the byte at each place, or nothing
+    // the byte at each address, or nothing
     ghost memory: { Self → ℕ → Option ℕ };
 
     // the pages touched since the list was cleared
@@ -36,7 +36,7 @@ pub trait Dma {
     fn pool_pages(&self) -> u32
         ensures { result ≡ page_count self.now };
 
-    /// Fills the buffer with the bytes from an address on, or answers `Unreadable` exactly where one is missing.
+    /// Fills the buffer with the bytes starting at an address, or answers `Unreadable` exactly where one is missing.
     fn read(&mut self, addr: u64, into: &mut [u8]) -> Result<(), Unreadable>
         requires room { length (reached self.old) ≤ 2 }
         requires some { 0 < length into.old }
@@ -49,7 +49,7 @@ pub trait Dma {
         ensures unlisted { unlisted self.new ≡ unlisted self.old }
         ensures pool { page_count self.new ≡ page_count self.old };
 
-    /// Puts the bytes from an address on, or answers `Unreadable` exactly where one is missing. All other bytes stay.
+    /// Writes the bytes starting at an address, or answers `Unreadable` exactly where one is missing. All other bytes stay.
     fn write(&mut self, addr: u64, bytes: &[u8]) -> Result<(), Unreadable>
         requires room { length (reached self.old) ≤ 2 }
         requires some { 0 < length bytes.now }
@@ -65,14 +65,14 @@ pub trait Dma {
 
 /// The list of the pages that calls of [`Dma`] touched, for whoever lends the memory.
 ///
-/// Only who has this bound, or the memory's own type, empties the list. Code that has [`Dma`] alone can only lengthen it. What is taken
+/// Only whoever has this bound, or the memory's own type, empties the list. Code that has [`Dma`] alone can only lengthen it. What is taken
 /// off the list is counted: [`TouchRecord::touches`] tells of each touch, for good.
 pub trait TouchRecord: Dma {
     /// The pages touched since the last `clear`, in the order touched, each as often as it was.
     fn touched(&self) -> &ArrayVec<PageNo, 4>
         ensures { result.now.items ≡ Self.reached self.now };
 
-    /// How many pages were touched since the memory was opened, those of the list and all that it does not have any more. Behind 2^64 - 1 it
+    /// How many pages were touched since the memory was opened, those of the list and all that it does not have any more. After 2^64 - 1 it
     /// begins at 0 again.
     fn touches(&self) -> u64
         ensures { result ≡ counted (Self.unlisted self.now) (length (Self.reached self.now)) };

@@ -35,7 +35,7 @@ impl<A: Allocator> Model for FlatMemory<A> {
 }
 
 impl<A: Allocator> FlatMemory<A> {
-    /// A pool of so many pages, every byte there and zero, with nothing touched.
+    /// A pool of this many pages, every byte there and zero, with nothing touched.
     ///
     /// # Errors
     ///
@@ -53,7 +53,7 @@ impl<A: Allocator> FlatMemory<A> {
         })
     }
 
-    /// Takes `count` bytes away, from a place on: they are missing. All others stay.
+    /// Takes `count` bytes away, starting at an address: they are missing. All others stay.
     pub fn remove(&mut self, from: usize, count: usize)
         requires { from + count ≤ length self.old.bytes }
         ensures { self.new ≡ record self.old { bytes = without self.old.bytes from count } }
@@ -61,7 +61,7 @@ impl<A: Allocator> FlatMemory<A> {
         self.bytes[from..from + count].fill(None);
     }
 
-    /// The byte at a place, where it is there.
+    /// The byte at an address, where it is there.
     pub fn byte(&self, place: usize) -> Option<u8>
         ensures { result ≡ slot_at self.now.bytes place }
     {
@@ -101,7 +101,7 @@ impl<A: Allocator> FlatMemory<A> {
         true
     }
 
-    /// Puts a byte at a place of the pool.
+    /// Puts a byte at an address of the pool.
     fn put(&mut self, place: usize, byte: u8)
         requires { place < length self.old.bytes }
         ensures put { self.new.bytes ≡ slice_set self.old.bytes place (Some byte) }

@@ -4,7 +4,7 @@ ghost use Rattle.std.specs.Prelude.{◌≡◌, [], ◌∷◌, ℕ, None, Some, l
 ghost use Rattle.page_memory.specs.Memory.{bytes_at, written, pages_reached, page_of};
 ghost use Rattle.page_memory.specs.Pages.{Pages, page_at, byte_at, with_bytes, AreWhole};
 
-/// Two pools of as many whole pages that show the same memory are the same, page by page: what a controller could read, and
+/// Two pools of equally many whole pages that show the same memory are the same, page by page: what a controller could read, and
 /// the size of the pool, tell which pages are in, and their bytes.
 #[tactic(auto, using(crate::proofs::Bytes::told))]
 pub fn memory_tells_pages()
@@ -12,7 +12,7 @@ pub fn memory_tells_pages()
         → ((place : ℕ) → byte_at a place ≡ byte_at b place) → a ≡ b }
 {}
 
-/// Worked runs of the definitions of places, ranges and pages.
+/// Worked runs of the definitions of addresses, ranges and pages.
 #[tactic(auto, unfolding(crate::specs::Memory::bytes_at))]
 pub fn worked_places()
     ensures page { page_of 8192 ≡ 2 }

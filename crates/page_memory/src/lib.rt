@@ -4,7 +4,7 @@
 //! by address, or *out*, moved into a value of the driver as a [`Page`]. The page of an address is the address divided by 4,096.
 //! An address outside the pool, or on a page that is out, is unreadable. What a controller does with memory goes
 //! through the trait [`Dma`], whose calls note the pages that they touch. [`TouchRecord`] shows these and forgets them: it is
-//! for who lends the memory, and no part of what it is lent as. A second memory that meets both is [`flat::FlatMemory`], for
+//! for whoever lends the memory, and not part of what it is lent as. A second memory that meets both is [`flat::FlatMemory`], for
 //! tests of what is written over any memory.
 //!
 //! The profile is this project's own; memory pages are those of the NVM Express Base Specification 2.0, with a

@@ -95,7 +95,7 @@ impl<A: Allocator> Frame<A> {
         self.array().as_mut_slice()
     }
 
-    /// Overwrites the bytes from offset `at` on; all others stay.
+    /// Overwrites the bytes starting at offset `at`; all others stay.
     pub(crate) fn set(&mut self, at: usize, bytes: &[u8])
         requires { at + length bytes.now ≤ 4096 }
         ensures bytes { self.new ≡ with_bytes self.old at bytes.now }
@@ -115,12 +115,20 @@ impl<A: Allocator> Frame<A> {
 }
 
 /// A page that is out of its store: its number and its bytes. Nobody makes one but [`Store::take`](crate::Store::take), and no
-/// call changes the number, so that the bytes go back to the very place they came from. Contracts see it as the number with the list of
+/// call changes the number, so that the bytes go back to exactly where they came from. Contracts see it as the number with the list of
 /// the bytes.
-#[derive(Drop)]
 pub struct Page<A: Allocator = Global> {
     number: PageNo,
     frame: Frame<A>,
+}
+
+impl<A: Allocator> Drop for Page<A> {
+    fn drop(self) {
+        let Self {
+            number: _,
+            frame: _,
+        } = self;
+    }
 }
 
 impl<A: Allocator> Model for Page<A> {
@@ -174,7 +182,7 @@ impl<A: Allocator> Page<A> {
         self.frame.bytes_mut()
     }
 
-    /// Overwrites the bytes from offset `at` on; all others stay, and so does the number.
+    /// Overwrites the bytes starting at offset `at`; all others stay, and so does the number.
     pub fn set(&mut self, at: usize, bytes: &[u8])
         requires { at + length bytes.now ≤ 4096 }
         ensures bytes { self.new ≡ (self.old.0, with_bytes self.old.1 at bytes.now) }

@@ -73,7 +73,7 @@ fn zeroed_pages<A: Allocator + Clone>(
 }
 
 impl<A: Allocator + Clone> Store<A> {
-    /// Opens a pool of so many pages, all in and all zero, with nothing touched.
+    /// Opens a pool of this many pages, all in and all zero, with nothing touched.
     ///
     /// # Errors
     ///
@@ -117,7 +117,7 @@ impl<A: Allocator> Store<A> {
         Some(Page::of(p, frame))
     }
 
-    /// Moves a page in, to the place that has its number, which is out.
+    /// Moves a page in, to the position that has its number, which is out.
     pub fn put(&mut self, page: Page<A>)
         requires { slice_get self.old.pages page.0 ≡ Some None }
         ensures { self.new ≡ record self.old { pages = slice_set self.old.pages page.0 (Some page.1) } }
@@ -177,7 +177,7 @@ impl<A: Allocator> Store<A> {
         ensures unlisted { self.new.unlisted ≡ self.old.unlisted }
     {
         let Some(page) = &mut self.pages[number as usize] else {
-            // The page is in: the caller owes it. `Option` has no `as_mut` here.
+            // The page is in: the caller guarantees it. `Option` has no `as_mut` here.
             unreachable!();
         };
         page.set(at, bytes);
@@ -203,7 +203,7 @@ struct Range {
 }
 
 impl Range {
-    /// The range of `count` bytes from an address on.
+    /// The range of `count` bytes starting at an address.
     fn new(addr: u64, count: usize) -> Self
         requires { count ≤ 4096 }
         ensures place { 4096 * result.page + result.at ≡ addr }

@@ -55,10 +55,10 @@ bytes_read bytes all copied place at n same there fits is =
 
 -- and that it is there
 pub bytes_some : (bytes : List ℕ) (place at n : ℕ) → at ≡ place → at + n ≤ length bytes → bytes_at (byte_of bytes) place n ≢ None
-bytes_some bytes place at n there fits = λ none. go (take n (drop at bytes)) (sym (bytes_there bytes n at fits) ∙ ap (λ (k : ℕ). bytes_at (byte_of bytes) k n) there ∙ none)
+bytes_some bytes place at n there fits = λ none. never_none (take n (drop at bytes)) (sym (bytes_there bytes n at fits) ∙ ap (λ (k : ℕ). bytes_at (byte_of bytes) k n) there ∙ none)
   where
-    go : (xs : List ℕ) → Some xs ≡ None → ⊥
-    go xs e = cc
+    never_none : (xs : List ℕ) → Some xs ≡ None → ⊥
+    never_none xs e = cc
 
 all_taken : (new rest : List ℕ) (n : ℕ) → n ≡ length new → take n (new ++ rest) ≡ new
 all_taken [] rest n e = rw e refl

@@ -14,7 +14,7 @@ fn four<A: Allocator>(alloc: A) -> Result<Vec<u64, A>, AllocError> {
     Ok(list)
 }
 
-/// So many calls, and so many of them refused, with nothing out.
+/// This many calls, and this many of them refused, with nothing out.
 fn calls(calls: u64, refused: u64) -> Tally {
     Tally {
         calls,

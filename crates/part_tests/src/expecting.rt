@@ -1,4 +1,4 @@
-//! What a test wants to see. A macro that says so is proved anew at each of its places; a call is not.
+//! What a test wants to see. A macro that says so is proved anew at each of its uses; a call is not.
 
 use std::fmt::Debug;
 use std::process::Abort;

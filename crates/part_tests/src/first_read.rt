@@ -22,7 +22,7 @@ const READ: [u8; 64] = [
     0x00, 0x40, 0, 0, 0, 0, 0, 0, // one Data Block: its address
     0x00, 0x02, 0, 0, // its length, 512 bytes
     0, 0, 0, 0x00, // its type
-    0, 0, 0, 0, 0, 0, 0, 0, // from block 0 on
+    0, 0, 0, 0, 0, 0, 0, 0, // starting at block 0
     0, 0, 0, 0, // one block, which is written as 0
     0, 0, 0, 0, 0, 0, 0, 0, 0, 0, 0, 0,
 ];
@@ -49,8 +49,8 @@ const QUEUES: [QueuePages; 2] = [
     },
 ];
 
-/// The emulator has the entry fetched. Before a call it clears the list of the touched pages, where that has pages, so that this call has room,
-/// and behind the call the list has what this call touched: here the page of the slot.
+/// The emulator has the entry fetched. Before a call it clears the list of the touched pages, where that has pages, so that this call has room, and
+/// after the call the list has what this call touched: here the page of the slot.
 ///
 /// It walks the list, one unit a call. The first unit is the entry's own descriptor, for which no memory is touched. The second one moves the
 /// bytes, and is the last.
@@ -86,8 +86,8 @@ fn find(rt: &impl Abort, memory: &mut GuestMemory) {
 
 /// The guest has 32 KiB of memory, and its disk one block of bytes 11h.
 ///
-/// The driver writes its entry into the first slot of the I/O queue, and the slot behind it to the doorbell. Nothing else tells the controller
-/// of it. In the end it says that it has read the completion.
+/// The driver writes its entry into the first slot of the I/O queue, and the slot after it to the doorbell. Nothing else tells the controller of it.
+/// In the end it says that it has read the completion.
 #[test]
 fn first_read(rt: HostRuntime) {
     let mut memory = GuestMemory::zeroed(rt.alloc(), 0x8000).expect(&rt, "a memory");

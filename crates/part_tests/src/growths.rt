@@ -31,7 +31,7 @@ const PAGES: [PageNo; 4] = [PageNo(1), PageNo(2), PageNo(3), PageNo(4)];
 /// A block that is discarded.
 const PIECES: [Piece; 1] = [Piece::Bucket { len: 512 }];
 
-/// Does a call, and lets go what it made: whether it was done.
+/// Does a call, and lets go of what it made: whether it was done.
 fn is_done(heap: &Refusing<Global>, chain: &Chain<Global>, request: &Request, call: Call) -> bool {
     match call {
         Call::FlattenChain => chain.flatten(heap).is_ok(),
@@ -82,7 +82,7 @@ fn calls_are_done_once_no_growth_is_refused(rt: HostRuntime) {
     }
 }
 
-/// Puts a hundred records into an empty table, the first of them in vain at first; and once more behind a clearing, without memory.
+/// Puts a hundred records into an empty table, the first of them in vain at first; and once more after a clearing, without memory.
 fn fill_twice<'a>(
     rt: &impl Abort,
     heap: &'a Refusing<Global>,

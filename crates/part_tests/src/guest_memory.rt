@@ -10,7 +10,7 @@ use page_memory::{Dma, PageNo, TouchRecord, Unreadable};
 use std::alloc::{AllocError, Global};
 use std::marker::Model;
 
-/// The guest's memory, so many bytes from address 0 on, and the list of the pages that the controller touched.
+/// The guest's memory, this many bytes starting at address 0, and the list of the pages that the controller touched.
 #[derive(Drop)]
 pub(crate) struct GuestMemory {
     bytes: Vec<u8>,
@@ -30,7 +30,7 @@ impl Model for GuestMemory {
 }
 
 impl GuestMemory {
-    /// So many bytes, all of them zero. Nothing is touched.
+    /// This many bytes, all of them zero. Nothing is touched.
     ///
     /// # Errors
     ///

@@ -33,7 +33,7 @@ nothing_left : (format : OutputFormat) (pattern : Pattern) (bytes : Option (List
 nothing_left Normal pattern bytes = ([], (no_tally, (line_text pattern no_tally, refl)), appends_none bytes)
 nothing_left Json pattern bytes = ([], tt, appends_none bytes)
 
--- want of memory, before anything is written
+-- lack of memory, before anything is written
 wanting : (told : Option (List ℕ)) (what : Asked) (bytes : Option (List ℕ)) → FailsWith told (Some what) bytes bytes (fault.Run run.Memory)
 wanting told (steps given) bytes = inl (inr refl, kept bytes)
 wanting told (traced given objects) bytes = inl (inr refl, kept bytes)
@@ -58,7 +58,7 @@ refused told (Some what) bytes e why (inr nothing) memory = absurd (no_some what
     no_some : (x : Asked) → Some x ≡ None → ⊥
     no_some x e = cc
 
--- where an error of the words is shown: they ask for nothing, or memory is wanting, and nothing is written
+-- where an error of the words is shown: they ask for nothing, or memory is lacking, and nothing is written
 pub shown : {T U : Type 0} (told : Option (List ℕ)) (what : Option Asked) (bytes : Option (List ℕ)) (e : Error) (r : Result T U) (fault_of : U → Fault)
     → (kind_of e ≡ OutOfMemory) ⊎ (what ≡ None) → IfErr r (λ why. kind_of e ≡ OutOfMemory → fault_of why ≡ fault.Run run.Memory)
     → IfErr r (λ why. FailsWith told what bytes bytes (fault_of why))
@@ -135,7 +135,7 @@ ends_jobs_told told submitters text config image a b run.Memory first (inl keeps
 ends_jobs_told told submitters text config image a b run.Memory first (inr writes) = inr (writes_jobs_told told submitters text config image a b IsCutJobsText first writes)
 ends_jobs_told told submitters text config image a b run.OutputFailed first writes = writes_jobs_told told submitters text config image a b IsCutJobsText first writes
 
--- Scripts that are looked at
+-- Scripts that are checked
 
 pub steps_told : (told : Option (List ℕ)) (text : List ℕ) → AreFirstOf 1048576 told text → AreSteps text → (script : List Numbered) × HasScript told script
 steps_told told text first (script, good) = (script, script_is_told told text script first good)
@@ -276,7 +276,7 @@ trace_end (Ok done) fault_of told given said objects text image a b last unwell 
 trace_end (Err x) fault_of told given said objects text image a b last unwell first says is writes end some =
     inr (inr (end_so (IsToldTo (told_as objects)) (fault_of x) told given said text image a b last unwell first says is writes end some))
 
--- Scripts that are looked at, by the faults that `?` makes
+-- Scripts that are checked, by the faults that `?` makes
 
 pub unread_check : {T U : Type 0} (r : Result T U) (fault_of : U → Fault) (told : Option (List ℕ)) (kind : ScriptKind) (Holds : List ℕ → SaidOptions → RunFault → Type 0) (why : RunFault)
     → IsErrAnd r (λ x. fault_of x ≡ fault.Run why) → IsUnread why → IfErr r (λ x. IsCheckFault told kind Holds (fault_of x))

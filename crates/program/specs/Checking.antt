@@ -12,7 +12,7 @@ AreSteps text = (script : List Numbered) × (script_of text ≡ Ok script)
 abbrev pub AreNoSteps : List ℕ → RunFault → Type 0
 AreNoSteps text fault = (why : ScriptFault) × (fault ≡ fault_of_script why) × IsReading text (Err why)
 
--- the same of jobs for so many submitters
+-- the same of jobs for this many submitters
 abbrev pub AreJobs : ℕ → List ℕ → Type 0
 AreJobs submitters text = (lines : List JobLine) × (jobs_of submitters text ≡ Ok lines)
 

@@ -4,7 +4,7 @@ use Rattle.load.specs.{Lines.{IsLineFront, line_text}, declared.tally.Tally.Tall
 use Rattle.script_cli.specs.{Inputs.Gains, declared.workload.{OutputFormat.OutputFormat, Pattern.Pattern}}
 use Rattle.script_cli.specs.declared.workload.OutputFormat.TheVariants as format
 
--- what is written behind a load: some JSON where that is wanted, else nothing
+-- what is written after a load: some JSON where that is wanted, else nothing
 abbrev pub Adds : OutputFormat → Option (List ℕ) → Option (List ℕ) → Type 0
 Adds format.Normal before after = after ≡ before
 Adds format.Json before after = Gains before after (λ json. Unit {0})

@@ -60,7 +60,7 @@ steps_said given text = option_map (λ options. given_over given options) (optio
 abbrev pub jobs_said : Given → ℕ → List ℕ → Option (Given × ℕ)
 jobs_said given submitters text = option_map (λ said. (given_over given said.0, said.1)) (jobs_options_in (options_of given) submitters text)
 
--- what the first line of a script says, where it is only looked at
+-- what the first line of a script says, where it is only checked
 abbrev pub line_said : ScriptKind → List ℕ → Option SaidOptions
 line_said kind text = said_on kind (first_line text)
 
@@ -68,11 +68,11 @@ line_said kind text = said_on kind (first_line text)
 abbrev pub bytes_read : List ℕ → List ℕ
 bytes_read script = take (1048576 + 1) script
 
--- There is a script, as far as it is known, and what is read of it says what something holds of.
+-- There is a script, as far as it is known, and what is read of it says something that meets a condition.
 abbrev pub Plays : {S : Type 0} → Option (List ℕ) → (List ℕ → Option S) → (List ℕ → S → Type 0) → Type 0
 Plays {S} told said_in Holds = (script : List ℕ) × IsTold told script × (said : S) × (said_in (bytes_read script) ≡ Some said) × Holds script said
 
--- its first line says options that are none
+-- its first line says invalid options
 abbrev pub SaysNone : {S : Type 0} → Option (List ℕ) → (List ℕ → Option S) → Type 0
 SaysNone told said_in = (script : List ℕ) × IsTold told script × (said_in (bytes_read script) ≡ None)
 
@@ -80,7 +80,7 @@ SaysNone told said_in = (script : List ℕ) × IsTold told script × (said_in (b
 abbrev pub IsUnread : RunFault → Type 0
 IsUnread why = (why ≡ run.Unreadable) ⊎ (why ≡ run.Memory)
 
--- why nothing was played: no script was read, its first line says options that are none, or there is no image
+-- why nothing was played: no script was read, its first line says invalid options, or there is no image
 abbrev pub IsNotBegun : {S : Type 0} → Option (List ℕ) → (List ℕ → Option S) → (S → Given) → Fault → Type 0
 IsNotBegun told said_in given_in (fault.Run why) = IsUnread why
 IsNotBegun told said_in given_in fault.BadOptions = SaysNone told said_in
@@ -89,7 +89,7 @@ IsNotBegun told said_in given_in other = ⊥
 
 -- What is written
 
--- a script of steps is played over an image, and of what comes of it something holds
+-- a script of steps is played over an image, and what comes of it meets a condition
 abbrev pub PlaysSteps : Option (List ℕ) → Given → (List ℕ → Given → List ℕ → Type 0) → Type 0
 PlaysSteps told given Holds =
     Plays (script_told given.script told) (steps_said given) (λ script said. (image : List ℕ) × IsFirstImage said image × Holds script said image)
@@ -119,7 +119,7 @@ IsTextAsAsked strict config image lines text = (unwell : ℕ) × IsCountedText u
 abbrev pub IsUnwellText : Config → List ℕ → List JobLine → List ℕ → Type 0
 IsUnwellText config image lines text = (unwell : ℕ) × IsCountedText unwell config image lines text × (unwell ≡ 0 → ⊥)
 
--- a script of jobs is run over an image by submitters, and of what comes of it something holds
+-- a script of jobs is run over an image by submitters, and what comes of it meets a condition
 abbrev pub RunsJobs : Option (List ℕ) → Given → ℕ → (List ℕ → Given → ℕ → List ℕ → Type 0) → Type 0
 RunsJobs told given submitters Holds =
     Plays (script_told given.script told) (jobs_said given submitters) (λ script said. (image : List ℕ) × IsFirstImage said.0 image × Holds script said.0 said.1 image)
@@ -129,7 +129,7 @@ abbrev pub TellsRun : Given → Loaded → Tally → Option (List ℕ) → Optio
 TellsRun given what tally before after =
     (image : List ℕ) × IsFirstImage given image × (how : Load) × (loaded_of how ≡ what) × HasRun given.config image how tally × TellsLoad what.format what.pattern tally before after
 
--- so a load of which no command was refused or failed and none brought other bytes, or else some
+-- the same of a load in which no command was refused or failed and none brought other bytes, or else some
 abbrev pub WritesLoad : Given → Loaded → Bool → Option (List ℕ) → Option (List ℕ) → Type 0
 WritesLoad given what good before after = (tally : Tally) × (is_good tally ≡ good) × TellsRun given what tally before after
 
@@ -139,11 +139,11 @@ fault_of_load (load_fault.Run why) = fault.Run why
 fault_of_load (load_fault.TooFewBlocks need blocks) = fault.Load (load_fault.TooFewBlocks need blocks)
 fault_of_load (load_fault.Round why) = fault.Load (load_fault.Round why)
 
--- a script of steps without faults is looked at
+-- a script of steps without faults is checked
 abbrev pub LooksAtSteps : Option (List ℕ) → Type 0
 LooksAtSteps told = Plays told (line_said Steps) (λ script said. (lines : List Numbered) × HasScript (Some script) lines)
 
--- and one of jobs, for so many submitters where it says none
+-- and one of jobs, for this many submitters where it says none
 abbrev pub LooksAtJobs : Option (List ℕ) → ℕ → Type 0
 LooksAtJobs told submitters = Plays told (line_said Jobs) (λ script said. (lines : List JobLine) × HasJobs (Some script) (unwrap_or said.submitters submitters) lines)
 
@@ -174,17 +174,17 @@ Performs told (Some grammar) before after = Unit {0}
 abbrev pub IsNoGrammar : RunFault → Type 0
 IsNoGrammar why = (why ≡ run.Memory) ⊎ (why ≡ run.OutputFailed)
 
--- a fault is one of a run, of which something holds
+-- a fault is one of a run, and meets a condition
 abbrev pub IsRunFault : Fault → (RunFault → Type 0) → Type 0
 IsRunFault (fault.Run why) Holds = Holds why
 IsRunFault other Holds = ⊥
 
--- a fault is one of an image, of which something holds
+-- a fault is one of an image, and meets a condition
 abbrev pub IsImageFault : Fault → (ImageFault → Type 0) → Type 0
 IsImageFault (fault.Image why) Holds = Holds why
 IsImageFault other Holds = ⊥
 
--- a script that is looked at was not read, says options that are none, or has a fault of which something holds
+-- a script that is checked was not read, says invalid options, or has a fault that meets a condition
 abbrev pub IsCheckFault : Option (List ℕ) → ScriptKind → (List ℕ → SaidOptions → RunFault → Type 0) → Fault → Type 0
 IsCheckFault told kind Holds (fault.Run why) = IsUnread why ⊎ Plays told (line_said kind) (λ script said. Holds script said why)
 IsCheckFault told kind Holds fault.BadOptions = SaysNone told (line_said kind)
@@ -215,7 +215,7 @@ IsEndFault given fault.NotSaved = IsSome given.save
 IsEndFault given fault.Unwell = given.strict ≡ true
 IsEndFault given other = ⊥
 
--- so of a script of steps, of whose run this is the text
+-- the same of a script of steps, whose run has this text
 abbrev pub IsEndOfRun : Outcome → Given → Fault → Table → List Numbered → List ℕ → Type 0
 IsEndOfRun Leaves given fault.NotSaved t script text = IsSome given.save × (last : Table) × (unwell : ℕ) × Leaves last unwell t script text
 IsEndOfRun Leaves given fault.Unwell t script text = (given.strict ≡ true) × HasUnwell Leaves t script text

@@ -13,7 +13,7 @@ abbrev pub status_of_tally : Tally → ℕ
 status_of_tally tally =
     if nat_lt 0 tally.unwritten then 3 else if nat_lt 0 tally.differing then 4 else if nat_lt 0 tally.faulty then 1 else 0
 
--- of bytes that are no case or no entry
+-- of bytes that are not a case or an entry
 abbrev pub status_of_case : CaseFault → ℕ
 status_of_case case_fault.Memory = 3
 status_of_case (case_fault.Line number start end wrong) = 1

@@ -1,4 +1,4 @@
-//! What stands below the line of a fault.
+//! What is below the line of a fault.
 
 ghost use Rattle.std.specs.Prelude.{◌≡◌};
 ghost use Rattle.command_line.specs.Asked.{given_of};
@@ -67,7 +67,7 @@ fn bad_sizes(alloc: Global, options: &Options<'_>) -> Result<String, AllocError>
     out_of_range(alloc, &world_of(options).sizes())
 }
 
-/// Where a word of options stands in the first line of a text.
+/// Where a word of options is in the first line of a text.
 pub(crate) fn place_of_option(text: &[u8], bad: BadOption<'_>) -> Place {
     let (line, _) = split_line(text);
     let end = line.len();
@@ -96,7 +96,7 @@ fn bad_option(alloc: Global, text: &[u8], bad: BadOption<'_>) -> Result<String, 
     Ok(out)
 }
 
-/// What more is told where the first line of a script says options that are none.
+/// What more is told where the first line of a script says invalid options.
 pub(crate) fn below_options(alloc: Global, text: &[u8], bad: BadOption<'_>) -> String {
     lines_or_none(alloc, bad_option(alloc, text, bad))
 }

@@ -24,7 +24,7 @@ fn fault_object(alloc: Global, fault: CaseFault) -> Result<String, AllocError> {
     Ok(text)
 }
 
-/// What is told of a text that is no case: lines below the fault, or an object in the output, and nothing else.
+/// What is told of a text that is not a case: lines below the fault, or an object in the output, and nothing else.
 fn at_fault<W: Write>(
     alloc: Global,
     text: &[u8],
@@ -105,7 +105,7 @@ pub(crate) fn explain_case<R: AllocGlobal + Files, I: Read, W: Write>(
     }
 }
 
-/// Words, with a blank behind each.
+/// Words, with a blank after each.
 fn joined(alloc: Global, words: &[&str]) -> Result<String, AllocError> {
     let mut text = String::new(alloc);
     for word in words {
@@ -115,7 +115,7 @@ fn joined(alloc: Global, words: &[&str]) -> Result<String, AllocError> {
     Ok(text)
 }
 
-/// Decodes the bytes behind the first word.
+/// Decodes the bytes after the first word.
 pub(crate) fn show_words<R: AllocGlobal + Files, W: Write>(
     rt: &R,
     words: &[&str],

@@ -146,7 +146,7 @@ fn told_of_options(
     Ok((head, below))
 }
 
-/// What the first line of a script says of options. Where its words are none, all faults of the script are told.
+/// What the first line of a script says of options. Where its words are not options, all faults of the script are told.
 pub(crate) fn read_options(
     alloc: Global,
     kind: ScriptKind,
@@ -194,7 +194,7 @@ pub(crate) fn check_steps(
     }
 }
 
-/// Sees whether a text is a script of jobs for so many submitters. All its faults are told.
+/// Sees whether a text is a script of jobs for this many submitters. All its faults are told.
 pub(crate) fn check_jobs(
     alloc: Global,
     path: Option<&str>,

@@ -159,7 +159,7 @@ fn layout_of(objects: bool) -> Layout {
     }
 }
 
-/// The end of a run in which so many answers were not well: a fault, where that is asked for.
+/// The end of a run in which this many answers were not well: a fault, where that is asked for.
 fn end_strictly(alloc: Global, options: Options<'_>, unwell: u64) -> Result<(), Told<Fault>>
     ensures unwell { IfErr result (λ told. IsUnwell (given_of options.entry) told.fault) }
     ensures some { OnErr result (unwell ≡ 0 → ⊥) }
@@ -171,7 +171,7 @@ fn end_strictly(alloc: Global, options: Options<'_>, unwell: u64) -> Result<(), 
     Ok(())
 }
 
-/// The end of a run that left a bench, and in which so many answers were not well: its image is saved.
+/// The end of a run that left a bench, and in which this many answers were not well: its image is saved.
 fn end_steps<R: AllocGlobal + Files + Print>(
     rt: &R,
     options: Options<'_>,
@@ -226,7 +226,7 @@ fn play<R: AllocGlobal + Files + Print, I: Read, W: Write>(
     }
 }
 
-/// What is told of a script of steps beside its answers, or in their stead.
+/// What is told of a script of steps besides its answers, or in their stead.
 fn telling_of(objects: bool) -> Telling
     ensures { result ≡ told_as objects }
 {

@@ -21,9 +21,9 @@ use views::explain::CaseFault;
 pub enum BytesFault {
     /// The controller refuses the command. The output told it.
     Refused,
-    /// They are no case, or no entry.
+    /// They are not a case, or not an entry.
     Case(CaseFault),
-    /// They are no case, or no entry, and the output told it.
+    /// They are not a case, or not an entry, and the output told it.
     Answered(CaseFault),
     /// The word before them names no kind of bytes.
     UnknownKind,
@@ -52,13 +52,13 @@ pub enum Fault {
     Arguments(clap::Error),
     /// The image is at fault.
     Image(ImageFault),
-    /// The script or the opening is at fault, or something was wanting while it ran.
+    /// The script or the opening is at fault, or something was missing while it ran.
     Run(RunFault),
-    /// Who reads the output closed it early. Nothing is told.
+    /// The reader of the output closed it early. Nothing is told.
     PipeClosed,
     /// All went well, but the image was not saved.
     NotSaved,
-    /// Transcripts came out otherwise, or are at fault. The output told it.
+    /// Transcripts turned out otherwise, or are at fault. The output told it.
     Transcripts(Tally),
     /// Bytes that were pasted in are refused, or at fault.
     Bytes(BytesFault),
@@ -68,18 +68,18 @@ pub enum Fault {
     Loaded(load::Tally),
     /// All went well, but what was measured was not written.
     NoStats,
-    /// The first line of a script says options that are none.
+    /// The first line of a script says invalid options.
     BadOptions,
     /// All went well, but with `--strict` a step was refused, or a status is not 0:00. The output told it.
     Unwell,
 }
 
-/// A fault, and the lines that stand below its own on standard error.
+/// A fault, and the lines below its own on standard error.
 #[derive(Debug, Drop)]
 pub struct Told<F> {
     /// The fault.
     pub fault: F,
-    /// Where it stands, as `FILE:LINE:COLUMN`, if that is told in place of the line's number.
+    /// Where it is, as `FILE:LINE:COLUMN`, if that is told in place of the line's number.
     pub place: Option<String>,
     /// Whole lines; none where there is no more to say, or no memory to say it.
     pub below: String,
@@ -106,7 +106,7 @@ impl<F> Told<F> {
 }
 
 impl Fault {
-    /// Prints a help text or the version, if that was asked for; any other error of the arguments is a fault, and want of memory that of a run.
+    /// Prints a help text or the version, if that was asked for; any other error of the arguments is a fault, and lack of memory that of a run.
     pub fn shown<R: AllocGlobal + Print + Eprint>(
         rt: &R,
         why: clap::Error,

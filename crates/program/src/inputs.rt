@@ -72,7 +72,7 @@ fn bad_length(alloc: Global, path: &str, count: usize) -> String {
     lines_or_none(alloc, text)
 }
 
-/// Says that standard input is no image.
+/// Says that standard input is not an image.
 fn no_standard(alloc: Global) -> String {
     let text = format!(in alloc;
         "--image names a file, and standard input is none; './-' is a file of that name\n"

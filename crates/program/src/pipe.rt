@@ -1,4 +1,4 @@
-//! Whether who reads the output has closed it.
+//! Whether the reader of the output has closed it.
 
 use std::io;
 use std::io::{ErrorKind, Write};

@@ -1,4 +1,4 @@
-//! Where a fault stands, as editors read it.
+//! Where a fault is, as editors read it.
 
 ghost use Rattle.std.specs.Prelude.{◌≡◌, IfSome, MatchOption, Some, false, true};
 ghost use Rattle.command_line.specs.Asked.{path_of};
@@ -11,7 +11,7 @@ use texts::faults::{Grammar, find};
 /// The name of standard input.
 pub(crate) const STANDARD: &str = "-";
 
-/// The path of a script that is no standard input.
+/// The path of a script that is not standard input.
 pub(crate) fn file_of(path: Option<&str>) -> Option<&str>
     ensures file { MatchOption result (is_file (path_of path.entry) ≡ false) (λ file. is_file (path_of path.entry) ≡ true) }
     ensures path { IfSome result (λ file. path_of path.entry ≡ Some file.now) }

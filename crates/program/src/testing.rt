@@ -21,10 +21,10 @@ use std::sync::Wait;
 use std::thread::Threads;
 use texts::faults::{Grammar, line_at};
 
-/// How many files came out in each way.
+/// How many files turned out in each way.
 #[derive(Clone, Copy, Debug, Default, PartialEq, Eq)]
 pub struct Tally {
-    /// What is printed is what stands there, or now stands there.
+    /// What is printed is what is there, or is now there.
     pub agreeing: u64,
     /// Something else is printed.
     pub differing: u64,
@@ -62,7 +62,7 @@ impl Tally {
     }
 }
 
-/// How a file came out.
+/// How a file turned out.
 #[derive(Clone, Copy, Debug, PartialEq, Eq)]
 enum FileEnd {
     Agrees,
@@ -71,7 +71,7 @@ enum FileEnd {
     Unwritten,
 }
 
-/// Says that what is printed is what stands there; what stands on standard input is said itself where it would be updated.
+/// Says that what is printed is what is there; what is on standard input is said itself where it would be updated.
 fn agree(
     path: &str,
     bytes: &[u8],
@@ -108,7 +108,7 @@ fn update<R: AllocGlobal + Files>(
     }
 }
 
-/// Says where something else is printed than stands there.
+/// Says where something else is printed than is there.
 fn differ(path: &str, difference: &Difference, line: &mut String) -> Result<FileEnd, AllocError> {
     let (number, column) = (difference.number, difference.column());
     let (wanted, came) = difference.texts();
@@ -138,7 +138,7 @@ fn say_line(
     line.push_str(&below_script(alloc, grammar, bytes, fault))
 }
 
-/// Says that a line of a file says options that are none, and what is wrong with them.
+/// Says that a line of a file says invalid options, and what is wrong with them.
 fn say_options(
     alloc: Global,
     path: &str,
@@ -159,7 +159,7 @@ fn say_options(
     }
 }
 
-/// Says why a file is no transcript.
+/// Says why a file is not a transcript.
 fn say_fault(
     alloc: Global,
     grammar: Grammar,
@@ -227,7 +227,7 @@ fn jobs_said(bytes: &[u8]) -> Option<(SaidOptions, u16)>
     }
 }
 
-/// Plays the bytes of a file, by the steps of a bench or the jobs of submitters: how that came out, and by which grammar they were read.
+/// Plays the bytes of a file, by the steps of a bench or the jobs of submitters: how that turned out, and by which grammar they were read.
 fn play<R: AllocGlobal + Clock + Eprint + Sync + Threads + Wait>(
     rt: &R,
     bytes: &[u8],
@@ -243,7 +243,7 @@ fn play<R: AllocGlobal + Clock + Eprint + Sync + Threads + Wait>(
     }
 }
 
-/// Tests the bytes of a file, and says how that came out.
+/// Tests the bytes of a file, and says how that turned out.
 fn test_bytes<R: AllocGlobal + Clock + Eprint + Files + Sync + Threads + Wait>(
     rt: &R,
     path: &str,
@@ -270,7 +270,7 @@ fn test_bytes<R: AllocGlobal + Clock + Eprint + Files + Sync + Threads + Wait>(
     }
 }
 
-/// Tests a file, and says how that came out.
+/// Tests a file, and says how that turned out.
 fn test_file<R: AllocGlobal + Clock + Eprint + Files + Sync + Threads + Wait, I: Read>(
     rt: &R,
     path: &str,
@@ -300,7 +300,7 @@ fn test_file<R: AllocGlobal + Clock + Eprint + Files + Sync + Threads + Wait, I:
 ///
 /// # Errors
 ///
-/// `OutputFailed` where a line is not written, and `Memory` where memory is refused. The files behind it are then not tested.
+/// `OutputFailed` where a line is not written, and `Memory` where memory is refused. The files after it are then not tested.
 pub(crate) fn test_files<
     R: AllocGlobal + Clock + Eprint + Files + Sync + Threads + Wait,
     S: AsStr,

@@ -27,7 +27,7 @@ submission_page_within n sq slot h = omega arith
 pub completion_page_within : (n cq slot : ℕ) → slot < n → completion_page cq slot < cq + half_pages n Completion
 completion_page_within n cq slot h = omega arith
 
--- a place of a slot, as a place of the half
+-- an address of a slot, as an address of the half
 further : (base slot k : ℕ) → base + slot + k ≡ base + (slot + k)
 further base slot k = omega arith
 
@@ -126,7 +126,7 @@ zeros_stand m cq n h =
 
 -- The halves in a pool of pages.
 
--- a place of the half, by its page and its offset
+-- an address of the half, by its page and its offset
 place_of : (page k : ℕ) → 4096 * page + k ≡ 4096 * (page + k / 4096) + k % 4096
 place_of page k = omega arith
 

@@ -24,7 +24,7 @@ bytes_agree m m' place (suc n) same =
     bytes_agree m m' (place + 1) n (λ k lt. subst (λ (q : ℕ). m q ≡ m' q) (sym (one_more place k)) (same (suc k) (omega arith))) in
     rw (first, rest) refl
 
--- a range that lies before the bytes that are written, or behind them
+-- a range that lies before the bytes that are written, or after them
 pub bytes_apart : (m : Memory) (place q n : ℕ) (bytes : List ℕ) → (q + n ≤ place) ⊎ (place + length bytes ≤ q) → bytes_at (written m place bytes) q n ≡ bytes_at m q n
 bytes_apart m place q n bytes apart =
     bytes_agree (written m place bytes) m q n (λ k lt. elim apart [
@@ -108,16 +108,16 @@ distance_grows n head tail h t room = grind (arith, nat_tests)
 pub distance_shrinks : (n head tail : ℕ) → head < n → tail < n → head ≢ tail → distance n head tail ≡ suc (distance n (next_slot n head) tail)
 distance_shrinks n head tail h t some = grind (arith, nat_tests)
 
--- two parts of a way
+-- a distance in two parts
 pub distance_parts : (n from mid to : ℕ) → from < n → mid < n → to < n → distance n from mid ≤ distance n from to → distance n from to ≡ distance n from mid + distance n mid to
 distance_parts n from mid to f m t h = grind (arith, nat_tests)
 
--- the slots on a way are as many as it is long, and lie in the ring
+-- the slots of a stretch are as many as it is long, and lie in the ring
 pub length_slots : (n many slot : ℕ) → length (slots_from n slot many) ≡ many
 length_slots n zero slot = refl
 length_slots n (suc many) slot = ap suc (length_slots n many (next_slot n slot))
 
--- the last slot of a way that is one slot longer
+-- the last slot of a stretch that is one slot longer
 slots_push : (n many head tail : ℕ) → head < n → tail < n → distance n head tail ≡ many → slots_from n head (suc many) ≡ slots_from n head many ++ tail ∷ []
 slots_push n zero head tail h t none = ap (λ (s : ℕ). s ∷ []) (distance_none n head tail h t none)
 slots_push n (suc many) head tail h t some =
@@ -134,7 +134,7 @@ between_pop n head tail h t some = ap (slots_from n head) (distance_shrinks n he
 pub between_none : (n slot : ℕ) → slots_between n slot slot ≡ []
 between_none n slot = ap (slots_from n slot) (distance_same n slot)
 
--- a way in two parts
+-- a stretch in two parts
 slots_parts : (n a b from mid : ℕ) → from < n → mid < n → distance n from mid ≡ a → slots_from n from (a + b) ≡ slots_from n from a ++ slots_from n mid b
 slots_parts n zero b from mid f m none =
     let more : 0 + b ≡ b = omega arith in
@@ -212,7 +212,7 @@ in_range_below n from to slot h = grind (arith, nat_tests)
 pub in_range_near : (n from to slot : ℕ) → is_in_range n from to slot ≡ true → distance n from slot ≤ distance n from to
 in_range_near n from to slot h = grind (arith, nat_tests)
 
--- a head that another side does not know yet has as much room at least
+-- a head that another side does not know yet has at least as much room
 pub room_ahead : (n known head tail : ℕ) → known < n → tail < n → is_in_range n known tail head ≡ true → is_full n known tail ≡ false → is_full n head tail ≡ false
 room_ahead n known head tail k t h free =
     let below : head < n = in_range_below n known tail head h in
@@ -224,7 +224,7 @@ room_ahead n known head tail k t h free =
 pub full_exactly : (n head tail : ℕ) → head < n → tail < n → (is_full n head tail ≡ true) ↔ (next_slot n tail ≡ head)
 full_exactly n head tail h t = (λ full. full_next n head tail h t (eqb-true (distance n head tail) (n - 1) full), λ next. eq-eqb (distance n head tail) (n - 1) (next_full n head tail h t next))
 
--- each position by the other and the way between them
+-- each position by the other and the distance between them
 pub tail_is_remainder : (n head tail : ℕ) → head < n → tail < n → tail ≡ (head + distance n head tail) % n
 tail_is_remainder n head tail h t =
     elim (distance_is n head tail) [
@@ -252,7 +252,7 @@ head_is_remainder n head tail h t =
 pub room : (n head tail : ℕ) → is_full n head tail ≡ false → distance n head tail ≢ n - 1
 room n head tail free = eqb-false (distance n head tail) (n - 1) free
 
--- what stands before the tail stays, and the tail's slot comes last
+-- what is before the tail stays, and the tail's slot comes last
 pub entries_append : (m : Memory) (sq n head tail : ℕ) (bytes : List ℕ) (entry : SubEntry) → length bytes ≡ 64 → submission_of bytes ≡ entry → head < n → tail < n → is_full n head tail ≡ false →
     entries_between (written m (submission_place sq tail) bytes) sq n head (next_slot n tail) ≡ entries_between m sq n head tail ++ Some entry ∷ []
 entries_append m sq n head tail bytes entry count spelled h t free =
@@ -271,7 +271,7 @@ completions_append m cq n head tail bytes entry count spelled h t free =
     ∙ ap (λ (xs : List (Option ComEntry)). xs ++ completion_at m' cq tail ∷ []) (see_between (completion_at m' cq) (completion_at m cq) n head tail h t (λ slot _ other. completion_other m cq tail slot bytes count other))
     ∙ ap (λ (x : Option ComEntry). completions_from m cq n head tail ++ x ∷ []) (completion_back m cq tail bytes count ∙ ap (λ (e : ComEntry). Some e) spelled)
 
--- the front goes
+-- the first one goes
 pub entries_pop : (m : Memory) (sq n head tail : ℕ) → head < n → tail < n → head ≢ tail → entries_between m sq n head tail ≡ entry_at m sq head ∷ entries_between m sq n (next_slot n head) tail
 entries_pop m sq n head tail h t some = ap (map (entry_at m sq)) (between_pop n head tail h t some)
 
@@ -303,12 +303,12 @@ completions_posted m m' cq n tail tail' place bytes entry host wrote at next cou
     ∙ ap (λ (x : ℕ). completions_from (written m (completion_place cq tail) bytes) cq n host.ring.head x) next
     ∙ completions_append m cq n host.ring.head tail bytes entry count spelled below t room
 
--- what is read of a slot is the entry that stands there
+-- what is read from a slot is the entry that is there
 pub read_is_entry : (m : Memory) (sq slot place : ℕ) (bytes : List ℕ) (entry : SubEntry) → bytes_at m place 64 ≡ Some bytes → place ≡ submission_place sq slot → entry ≡ submission_of bytes → entry_at m sq slot ≡ Some entry
 read_is_entry m sq slot place bytes entry read at is =
     ap (λ (x : Option (List ℕ)). option_map submission_of x) (ap (λ (p : ℕ). bytes_at m p 64) (sym at) ∙ read) ∙ ap (λ (e : SubEntry). Some e) (sym is)
 
--- the entry that is read at the head is the front of the rung list
+-- the entry that is read at the head is the first of the announced list
 pub read_is_front : (m : Memory) (sq n head bell place : ℕ) (bytes : List ℕ) (entry : SubEntry) → bytes_at m place 64 ≡ Some bytes → place ≡ submission_place sq head → entry ≡ submission_of bytes → head < n → bell < n → head ≢ bell →
     Some entry ≡ front (entries_between m sq n head bell)
 read_is_front m sq n head bell place bytes entry read at is h b some =
@@ -385,7 +385,7 @@ tie_kept_by_post n head tail phase h t free = grind (arith, nat_tests)
 pub tie_kept_by_advance : (n head tail : ℕ) (phase : Bool) → head < n → tail < n → head ≢ tail → next_phase n head (expected_phase head tail phase) ≡ expected_phase (next_slot n head) tail phase
 tie_kept_by_advance n head tail phase h t some = grind (arith, nat_tests)
 
--- what stands at the host's head
+-- what is at the host's head
 expected_there : (x : Option ComEntry) (phase : Bool) → option_map (λ entry. entry.phase) x ≡ Some phase → option_and_then (with_phase phase) x ≡ x
 expected_there None phase h = cc
 expected_there (Some entry) phase h = let e : entry.phase ≡ phase = cc in ap (λ (b : Bool). cond b (Some entry) None) (ap (λ (b : Bool). beq b phase) e ∙ same phase)
@@ -470,11 +470,11 @@ comes_round n slot many h le =
     ∙ add-mod_right slot n
     ∙ mod-eq_of_lt h
 
--- each end of a way by the other
+-- each end of a stretch by the other
 pub tail_moved : (n head tail : ℕ) → head < n → tail < n → tail ≡ moved n head (distance n head tail)
 tail_moved n head tail h t = tail_is_remainder n head tail h t ∙ sym (moved_is_remainder n (distance n head tail) head h)
 
--- how far a slot is that lies so many moves ahead
+-- how far away a slot is that lies this many moves ahead
 far : (n slot many : ℕ) → slot < n → many < n → distance n slot ((slot + many) % n) ≡ many
 far n slot many h m = elim (cases_lt (slot + many) n) [
   | inl inside ↦ rw (mod-eq_of_lt inside, distance_ahead n slot (slot + many) (omega arith)) (omega arith)

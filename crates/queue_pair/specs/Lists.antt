@@ -16,7 +16,7 @@ completions_from m cq n from to = map (completion_at m cq) (slots_between n from
 abbrev pub unfetched : Memory → HostSide → ControllerSide → List (Option SubEntry)
 unfetched m host controller = entries_between m controller.sq controller.entries controller.ring.head host.ring.tail
 
--- those of them that were rung
+-- those of them that the doorbell announced
 abbrev pub rung : Memory → ControllerSide → List (Option SubEntry)
 rung m controller = entries_between m controller.sq controller.entries controller.ring.head controller.ring.bell
 
@@ -29,7 +29,7 @@ abbrev pub front : {X : Type 0} → List (Option X) → Option X
 front [] = None
 front (x ∷ xs) = x
 
--- the phase of a slot of the completion ring: the controller's before its tail, and the other one from there on
+-- the phase of a slot of the completion ring: the controller's before its tail, and the other one from the tail
 abbrev pub phase_of_slot : ℕ → Bool → ℕ → Bool
 phase_of_slot tail phase slot = if nat_lt slot tail then phase else not phase
 

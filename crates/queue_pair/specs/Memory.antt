@@ -4,7 +4,7 @@ use Rattle.std.specs.{Bool.beq, Prelude.{ℕ, ◌+◌, ◌*◌, ◌/◌, Bool, L
 use Rattle.page_memory.specs.{Memory.{Memory, bytes_at}, declared.page.Half.{Half, TheVariants.{Submission, Completion}}}
 use Rattle.entry_codec.specs.{Completion.completion_of, Submission.submission_of, declared.{completion.ComEntry.ComEntry, submission.SubEntry.SubEntry}}
 
--- the first place of a slot of a half that begins at a page
+-- the first address of a slot of a half that begins at a page
 abbrev pub submission_place : ℕ → ℕ → ℕ
 submission_place sq slot = 4096 * sq + 64 * slot
 

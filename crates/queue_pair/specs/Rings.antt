@@ -11,8 +11,8 @@ pub record HostRing : Type 0 where
   pub known_head : ℕ
   pub tail : ℕ
 
--- the controller: where it reads the submission ring, and the tail that was rung; where it writes the completion ring, in
--- which phase, and the completion head that was rung
+-- the controller: where it reads the submission ring, and the tail written to the doorbell; where it writes the completion ring, in
+-- which phase, and the completion head written to the doorbell
 pub record ControllerRing : Type 0 where
   pub head : ℕ
   pub bell : ℕ
@@ -86,11 +86,11 @@ next_head n ring = record ring { head = next_slot n ring.head; phase = next_phas
 abbrev pub knowing : ℕ → HostRing → HostRing
 knowing head ring = record ring { known_head = head }
 
--- the controller heard the host's submission tail
+-- the controller saw the host's submission tail
 abbrev pub hearing_tail : ℕ → ControllerRing → ControllerRing
 hearing_tail tail ring = record ring { bell = tail }
 
--- the controller heard the host's completion head
+-- the controller saw the host's completion head
 abbrev pub hearing_head : ℕ → ControllerRing → ControllerRing
 hearing_head head ring = record ring { known_head = head }
 

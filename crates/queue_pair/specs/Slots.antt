@@ -5,7 +5,7 @@ use Rattle.std.specs.Prelude.{ℕ, zero, suc, ◌+◌, ◌-◌, ◌==◌, ◌&&�
 abbrev pub next_slot : ℕ → ℕ → ℕ
 next_slot n slot = if slot + 1 == n then 0 else slot + 1
 
--- how many slots lie from one position to another, the last one left out
+-- how many slots lie from one position to another, without the last one
 abbrev pub distance : ℕ → ℕ → ℕ → ℕ
 distance n from to = if nat_le from to then to - from else to + n - from
 
@@ -17,7 +17,7 @@ is_full n head tail = distance n head tail == n - 1
 abbrev pub is_in_range : ℕ → ℕ → ℕ → ℕ → Bool
 is_in_range n from to slot = nat_lt slot n && nat_le (distance n from slot) (distance n from to)
 
--- so many slots from one on
+-- this many slots, starting at a given one
 abbrev pub slots_from : ℕ → ℕ → ℕ → List ℕ
 slots_from n slot zero = []
 slots_from n slot (suc many) = slot ∷ slots_from n (next_slot n slot) many
@@ -26,7 +26,7 @@ slots_from n slot (suc many) = slot ∷ slots_from n (next_slot n slot) many
 abbrev pub slots_between : ℕ → ℕ → ℕ → List ℕ
 slots_between n from to = slots_from n from (distance n from to)
 
--- the position after so many moves
+-- the position after this many moves
 abbrev pub moved : ℕ → ℕ → ℕ → ℕ
 moved n slot zero = slot
 moved n slot (suc many) = moved n (next_slot n slot) many

@@ -17,7 +17,7 @@ use entry_codec::{ComEntry, SubEntry};
 use page_memory::{Dma, Half, PageNo};
 use std::marker::Model;
 
-/// The controller's side of a queue pair: where it takes entries and posts completions, and what it heard by doorbells.
+/// The controller's side of a queue pair: where it takes entries and posts completions, and what doorbells told it.
 #[derive(Clone, Copy)]
 pub struct DevicePair {
     q: u16,
@@ -47,8 +47,8 @@ impl Model for DevicePair {
 }
 
 impl DevicePair {
-    /// The controller's side of queue `q` with so many entries in each ring, whose halves begin at the pages `sq` and `cq`. Nothing
-    /// is rung, and the first completion is posted with phase 1.
+    /// The controller's side of queue `q` with this many entries in each ring, whose halves begin at the pages `sq` and `cq`. Nothing
+    /// is announced, and the first completion is posted with phase 1.
     pub fn open(q: u16, entries: u16, sq: PageNo, cq: PageNo) -> DevicePair
         requires least { 2 ≤ entries }
         requires most { entries ≤ 1024 }
@@ -67,7 +67,7 @@ impl DevicePair {
         }
     }
 
-    /// Makes the side as [`DevicePair::open`] makes one, over halves that begin at the pages `sq` and `cq`: nothing is rung, and the
+    /// Makes the side as [`DevicePair::open`] makes one, over halves that begin at the pages `sq` and `cq`: nothing is announced, and the
     /// first completion is posted with phase 1. The number of the queue and of its entries stay.
     pub fn renew(&mut self, sq: PageNo, cq: PageNo)
         ensures renewed { self.new ≡ record self.old { sq = sq; cq = cq; ring = fresh_controller_ring } }
@@ -93,7 +93,7 @@ impl DevicePair {
         }
     }
 
-    /// Where the controller stands in both rings, and what it heard by doorbells.
+    /// Where the controller stands in both rings, and what doorbells told it.
     pub fn positions(&self) -> ControllerPositions
         ensures { result ≡ controller_positions self.now.ring }
     {
@@ -106,7 +106,7 @@ impl DevicePair {
         }
     }
 
-    /// Hears the tail doorbell of the submission queue.
+    /// Reads the tail doorbell of the submission queue.
     ///
     /// # Errors
     ///
@@ -123,7 +123,7 @@ impl DevicePair {
         Ok(())
     }
 
-    /// Hears the head doorbell of the completion queue.
+    /// Reads the head doorbell of the completion queue.
     ///
     /// # Errors
     ///
@@ -149,7 +149,7 @@ impl DevicePair {
         self.head
     }
 
-    /// Looks at the first entry that was rung and not taken, if there is one.
+    /// Looks at the first entry that was announced and not taken, if there is one.
     ///
     /// # Errors
     ///
@@ -178,7 +178,7 @@ impl DevicePair {
         Ok(Some(SubEntry::read(&bytes)))
     }
 
-    /// Takes the first entry that was rung.
+    /// Takes the first entry that was announced.
     pub fn take(&mut self)
         requires { self.old.ring.head ≢ self.old.ring.bell }
         ensures taken { self.new ≡ record self.old { ring = entry_taken self.old.entries self.old.ring } }

@@ -7,7 +7,7 @@ use page_memory::Half;
 
 /// The offset of a doorbell register: the tail doorbell of submission queue `q`, or the head doorbell of completion queue `q`.
 ///
-/// The doorbell stride is 0, and the value stands in bits 15:0 of the register (NVM Express over PCIe Transport Specification 1.0,
+/// The doorbell stride is 0, and the value is in bits 15:0 of the register (NVM Express over PCIe Transport Specification 1.0,
 /// "Doorbell registers", section 3.1.2).
 pub fn doorbell(q: u16, half: Half) -> u32
     ensures { result ≡ doorbell_offset q half }
@@ -19,7 +19,7 @@ pub fn doorbell(q: u16, half: Half) -> u32
     }
 }
 
-/// How many pages a half with so many entries has: 64 submission entries, or 256 completions, stand in a page.
+/// How many pages a half with this many entries has: 64 submission entries, or 256 completions, fit in a page.
 pub fn half_pages(entries: u16, half: Half) -> u32
     ensures { result ≡ pages_of_half entries half }
 {

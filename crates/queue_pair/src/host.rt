@@ -47,7 +47,7 @@ impl<A: Allocator> Model for HostPair<A> {
 }
 
 impl<A: Allocator + Clone> HostPair<A> {
-    /// The host's side of queue `q` with so many entries in each ring, whose halves begin at the pages `sq` and `cq`. Nothing is
+    /// The host's side of queue `q` with this many entries in each ring, whose halves begin at the pages `sq` and `cq`. Nothing is
     /// posted, the first completion is expected with phase 1, and no identifier is claimed.
     ///
     /// # Errors
@@ -103,7 +103,7 @@ impl<A: Allocator> HostPair<A> {
         self.tail = 0;
     }
 
-    /// Puts an entry into the slot at the tail and answers that slot. The controller sees it once the tail is rung.
+    /// Puts an entry into the slot at the tail and answers that slot. The controller sees it once the tail doorbell is written.
     ///
     /// # Errors
     ///
@@ -135,7 +135,7 @@ impl<A: Allocator> HostPair<A> {
         Ok(slot)
     }
 
-    /// The value to ring for the submission queue: its tail.
+    /// The value for the submission queue's doorbell: its tail.
     pub fn ring_value(&self) -> u16
         ensures tail { result ≡ self.now.ring.tail }
         ensures proper { IsHostSide self.now }
@@ -143,7 +143,7 @@ impl<A: Allocator> HostPair<A> {
         self.tail
     }
 
-    /// The value to ring for the completion queue: its head.
+    /// The value for the completion queue's doorbell: its head.
     pub fn head_value(&self) -> u16
         ensures head { result ≡ self.now.ring.head }
         ensures proper { IsHostSide self.now }
@@ -203,7 +203,7 @@ impl<A: Allocator> HostPair<A> {
     }
 
     /// Takes the completion at the head: the head moves to the next slot, and the expected phase turns at the wrap. The caller
-    /// owes that [`HostPair::peek`] answers a completion there.
+    /// guarantees that [`HostPair::peek`] answers a completion there.
     pub fn advance(&mut self)
         ensures advanced { self.new ≡ record self.old { ring = next_head self.old.entries self.old.ring } }
         ensures dropped { (m : Memory) (controller : ControllerSide) → IsPair self.old controller → IsControllerSide controller → self.old.ring.head ≢ controller.ring.tail

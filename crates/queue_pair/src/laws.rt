@@ -11,7 +11,7 @@ ghost use Rattle.queue_pair.specs.Memory.{submission_place, completion_place, su
 ghost use Rattle.queue_pair.specs.Lists.{entries_between, completions_from, PhasesStand, expected_phase};
 ghost use Rattle.queue_pair.specs.Halves.{IsIn, IsZero, Agree, IsOutside, AreApart};
 
-/// The order of a ring of n slots is that of the remainders by n: so after so many takes a head is its start and their number,
+/// The order of a ring of n slots is that of the remainders by n: so after a number of takes a head is its start plus that number,
 /// modulo n.
 #[tactic(auto, using(crate::proofs::Rings::next_is_remainder, crate::proofs::Rings::distance_is_remainder, crate::proofs::Rings::moved_is_remainder))]
 pub fn order_is_modular()
@@ -20,7 +20,7 @@ pub fn order_is_modular()
     ensures moved { (n many slot : ℕ) → slot < n → moved n slot many ≡ (slot + many) % n }
 {}
 
-/// Moves stay inside the ring, and n of them come round: the slot from which so many moves lead to another lies the rest of the ring
+/// Moves stay inside the ring, and n of them come round: the slot from which some number of moves leads to another lies the rest of the ring
 /// ahead of that.
 #[tactic(auto, using(crate::proofs::Rings::moved_below, crate::proofs::Rings::comes_round, crate::proofs::Rings::comes_apart, crate::proofs::Rings::tail_moved, crate::proofs::Rings::head_moved))]
 pub fn moves_come_round()
@@ -39,8 +39,8 @@ pub fn room_is_known()
     ensures ahead { (n known head tail : ℕ) → known < n → tail < n → is_in_range n known tail head ≡ true → is_full n known tail ≡ false → is_full n head tail ≡ false }
 {}
 
-/// The lists of a ring: as many as there are slots on the way, none where the positions are the same, and cut at each position on
-/// the way. So the entries that are not fetched are those that were rung, and then those that were not.
+/// The lists of a ring: as many as there are slots between the positions, none where the positions are the same, and cut at each position on
+/// the way. So the entries that are not fetched are those that were announced, and then those that were not.
 #[tactic(auto, using(crate::proofs::Rings::entries_count, crate::proofs::Rings::completions_count, crate::proofs::Rings::entries_none, crate::proofs::Rings::completions_none, crate::proofs::Rings::entries_parts, crate::proofs::Rings::completions_parts))]
 pub fn lists_follow_slots()
     ensures entries { (m : Memory) (sq n from to : ℕ) → length (entries_between m sq n from to) ≡ distance n from to }
@@ -118,7 +118,7 @@ pub fn moves_stay_inside()
     ensures controller_renewed { (side : ControllerSide) (sq cq : ℕ) → IsControllerSide side → IsControllerSide (record side { sq = sq; cq = cq; ring = fresh_controller_ring }) }
 {}
 
-/// Where two positions lie so many slots apart, each tells the other; and the phase that the host expects tells the controller's,
+/// Where two positions lie some number of slots apart, each tells the other; and the phase that the host expects tells the controller's,
 /// by whether the answers that are left reach past the wrap. Each side tells the other's phase alike.
 #[tactic(auto, using(crate::proofs::Rings::tail_is_remainder, crate::proofs::Rings::head_is_remainder, crate::proofs::Rings::phase_told, crate::proofs::Rings::told_alike))]
 pub fn positions_follow_lists()

@@ -13,17 +13,17 @@ pub struct HostPositions {
     pub phase: bool,
 }
 
-/// Where the controller stands in the two rings of a queue, and what it heard by doorbells.
+/// Where the controller stands in the two rings of a queue, and what doorbells told it.
 #[derive(Clone, Copy, Debug, PartialEq, Eq)]
 pub struct ControllerPositions {
     /// The submission head: the slot of the next entry to fetch.
     pub submission_head: u16,
-    /// The submission tail that was rung last.
+    /// The submission tail written to the doorbell last.
     pub tail_doorbell: u16,
     /// The completion tail: the slot that the next completion goes to.
     pub completion_tail: u16,
     /// The phase tag that it gets there.
     pub phase: bool,
-    /// The completion head that was rung last.
+    /// The completion head written to the doorbell last.
     pub head_doorbell: u16,
 }

@@ -30,7 +30,7 @@ use Rattle.host_core.proofs.Granted.{length-zeroed}
 
 -- Where pages do not run out, there are free ones.
 
--- pages of which none stands twice, among free ones
+-- pages, none of which occurs twice, among free ones
 pub counted_free : (p : ℕ) (xs free : List ℕ) → times p xs ≤ times p free → times p free ≤ 1 → times p xs ≡ (if is_among xs p && is_among free p then 1 else 0)
 counted_free p xs free less once = grind (arith, held_once, not_held)
 
@@ -110,17 +110,17 @@ held_found s q cid none = grind (arith, first_fails, rest_fails)
 
 -- and so there is what is handed out
 finished_of : (s : State) (r : Record) → HasEnded r → (f : FinishedContents) × (finished_from s r ≡ Some f)
-finished_of s r h = go (asked_by r.work) h.is_io r.status h.has_status
+finished_of s r h = is_handed_out (asked_by r.work) h.is_io r.status h.has_status
   where
-    go : (asked : Option Request) → is_some asked ≡ true → (st : Option Status) → is_some st ≡ true
+    is_handed_out : (asked : Option Request) → is_some asked ≡ true → (st : Option Status) → is_some st ≡ true
         → (f : FinishedContents) × (option_and_then
         (λ asked. option_map
         (λ st. record { q = r.q; cid = r.cid; request = asked; status = st; hints = r.hints; data_pages = pages_with_bytes s.memory r.data_pages; chain_pages = pages_with_bytes s.memory r.chain_pages })
         st)
         asked ≡ Some f)
-    go None a st b = absurd (true≢false (sym a))
-    go (Some asked) a None b = absurd (true≢false (sym b))
-    go (Some asked) a (Some st) b =
+    is_handed_out None a st b = absurd (true≢false (sym a))
+    is_handed_out (Some asked) a None b = absurd (true≢false (sym b))
+    is_handed_out (Some asked) a (Some st) b =
         (record { q = r.q; cid = r.cid; request = asked; status = st; hints = r.hints; data_pages = pages_with_bytes s.memory r.data_pages; chain_pages = pages_with_bytes s.memory r.chain_pages }, refl)
 
 by_collect : (s : State) (q cid : ℕ) → IsReady s → refusal_of s (events.Collect q cid) ≡ None → IsAccepted s (events.Collect q cid)
@@ -147,7 +147,7 @@ by_walk s q cid t order none =
 
 -- Every event
 
--- where the causes decide on the controller, nothing was forged
+-- where the causes decide for the controller, nothing was forged
 trusted_only : (s : State) → (s.trusted || false) ≡ true → s.trusted ≡ true
 trusted_only s h = grind (arith, h)
 

@@ -157,7 +157,7 @@ place_is e = cc
 -- a move puts the byte of each of its targets, and leaves the others
 pub moved_byte : (m : Pages) (ts : List Target) (place n offset : ℕ) (bytes : List ℕ) (i p x : ℕ) → MoveTo m ts place n offset → length bytes ≡ length ts
     → slice_get ts i ≡ Some (Place p) → byte_at m p ≡ Some x → (((offset ≤ i) × (i < offset + n)) ⊎ (slice_get bytes i ≡ Some x)) → slice_get (with_bytes bytes offset (page_bytes m place n)) i ≡ Some x
-moved_byte m ts place n offset bytes i p x h len target is either = go (nat_lt i offset) refl (nat_lt i (offset + n)) refl either
+moved_byte m ts place n offset bytes i p x h len target is either = by_position (nat_lt i offset) refl (nat_lt i (offset + n)) refl either
   where
     count : length (page_bytes m place n) ≡ n
     count = move_length m ts place n offset h
@@ -178,12 +178,12 @@ moved_byte m ts place n offset bytes i p x h len target is either = go (nat_lt i
         let same : place + k ≡ p = place_is (sym (h.targets k lt) ∙ ap (slice_get ts) (sym e) ∙ target) in
         ap (slice_get (with_bytes bytes offset (page_bytes m place n))) e ∙ get_within bytes (page_bytes m place n) offset k fits (omega (arith, count, lt)) ∙ move_byte m ts place n offset k h lt ∙ ap (byte_at m) same ∙ is
 
-    go : (b : Bool) → nat_lt i offset ≡ b → (c : Bool) → nat_lt i (offset + n) ≡ c → (((offset ≤ i) × (i < offset + n)) ⊎ (slice_get bytes i ≡ Some x)) → slice_get (with_bytes bytes offset (page_bytes m place n)) i ≡ Some x
-    go true e c f (inl r) = absurd (omega (arith, r.0, less i offset e))
-    go true e c f (inr old) = get_below bytes (page_bytes m place n) offset i fits (less i offset e) ∙ old
-    go false e true f r = within (i - offset) (omega (arith, not_less i offset e)) (omega (arith, not_less i offset e, less i (offset + n) f))
-    go false e false f (inl r) = absurd (omega (arith, r.1, not_less i (offset + n) f))
-    go false e false f (inr old) =
+    by_position : (b : Bool) → nat_lt i offset ≡ b → (c : Bool) → nat_lt i (offset + n) ≡ c → (((offset ≤ i) × (i < offset + n)) ⊎ (slice_get bytes i ≡ Some x)) → slice_get (with_bytes bytes offset (page_bytes m place n)) i ≡ Some x
+    by_position true e c f (inl r) = absurd (omega (arith, r.0, less i offset e))
+    by_position true e c f (inr old) = get_below bytes (page_bytes m place n) offset i fits (less i offset e) ∙ old
+    by_position false e true f r = within (i - offset) (omega (arith, not_less i offset e)) (omega (arith, not_less i offset e, less i (offset + n) f))
+    by_position false e false f (inl r) = absurd (omega (arith, r.1, not_less i (offset + n) f))
+    by_position false e false f (inr old) =
         let k : i ≡ offset + (length (page_bytes m place n) + (i - offset - n)) = omega (arith, not_less i (offset + n) f, count) in
         ap (slice_get (with_bytes bytes offset (page_bytes m place n))) k ∙ get_above bytes (page_bytes m place n) offset (i - offset - n) fits ∙ ap (slice_get bytes) (sym k) ∙ old
 
@@ -211,7 +211,7 @@ carried_byte m ts i p x target is (Does (Moves place n offset) rest) bytes h len
 carried_byte m ts i p x target is (Does (Moves place n offset) rest) bytes h len (inr old) =
     carried_byte m ts i p x target is rest (with_bytes bytes offset (page_bytes m place n)) h.1 (moved_fits m ts place n offset bytes h.0 len) (inr (moved_byte m ts place n offset bytes i p x h.0 len target is (inr old)))
 
--- What stands in a command's data pages, byte for byte along its targets.
+-- What is in a command's data pages, byte for byte along its targets.
 
 -- the bytes at the targets that are places, one after the other
 abbrev pub Gathers : Pages → List Target → List ℕ → Type 0
@@ -329,7 +329,7 @@ some_stand m own zero (Discarded ∷ ts) gs os (b ∷ bs) g o len h l =
 some_stand m own (suc k) (Discarded ∷ ts) gs os (b ∷ bs) g o len h l =
     some_stand m own k ts gs os bs g o (omega (arith, len)) (λ i q z e f lt. h (suc i) q z e f (omega (arith, lt))) (λ i q z e f le. l (suc i) q z e f (omega (arith, le)))
 
--- What a walk to a destination writes into the data pages: the first bytes of its job, and nothing behind them.
+-- What a walk to a destination writes into the data pages: the first bytes of its job, and nothing after them.
 
 pub set_there : (m : Pages) (p : ℕ) (x : List ℕ) (y : Option (List ℕ)) → page_at m p ≡ Some x → page_at (slice_set m p y) p ≡ y
 set_there [] p x y e = absurd cc
@@ -382,7 +382,7 @@ written_outside m place p page new there whole fits far = elim (cases_Bool (page
             let k : p % 4096 ≡ place % 4096 + (length new + (p % 4096 - place % 4096 - length new)) = omega (arith, not_less (p % 4096) (place % 4096 + length new) f) in
             ap (slice_get (with_bytes page (place % 4096) new)) k ∙ get_above page new (place % 4096) (p % 4096 - place % 4096 - length new) (omega (arith, whole, fits)) ∙ ap (slice_get page) (sym k)
 
--- The places of the first k targets have the first k bytes, the others what another memory has there.
+-- The addresses of the first k targets have the first k bytes, the others what another memory has there.
 pub record Received (m own : Pages) (ts : List Target) (bs : List ℕ) (k : ℕ) : Type 0 where
   pub first : (i p : ℕ) → slice_get ts i ≡ Some (Place p) → i < k → byte_at m p ≡ slice_get bs i
   pub rest : (i p : ℕ) → slice_get ts i ≡ Some (Place p) → k ≤ i → byte_at m p ≡ byte_at own p
@@ -424,16 +424,16 @@ received_more m own ts bs k place n offset to len differ le gap h = record {
         ∙ written_within m place (i - offset) to.page (take n (drop offset bs)) to.there to.whole (omega (arith, count, to.one_page)) (omega (arith, low, count))
         ∙ get_take (drop offset bs) n (i - offset) low ∙ get_drop bs offset (i - offset) ∙ ap (slice_get bs) (sym at)
 
--- memory that stays at the places
+-- memory that is unchanged at the addresses
 pub received_still : (m m' own : Pages) (ts : List Target) (bs : List ℕ) (k : ℕ) → ((i p : ℕ) → slice_get ts i ≡ Some (Place p) → byte_at m' p ≡ byte_at m p) → Received m own ts bs k → Received m' own ts bs k
 received_still m m' own ts bs k same h = record {
   first = λ i p target lt. same i p target ∙ h.first i p target lt;
   rest = λ i p target le. same i p target ∙ h.rest i p target le;
 }
 
--- The units of a list move its bytes in rising order, each byte once, and each to a place of its own.
+-- The units of a list move its bytes in ascending order, each byte once, and each to an address of its own.
 
--- Rising offsets
+-- Ascending offsets
 
 abbrev pub Ordered : ℕ → Course → Type 0
 Ordered k (Closes v) = Unit {0}
@@ -553,7 +553,7 @@ all_reached k i (Does (Reads p) rest) (suc t) h m le = all_reached k i rest t h 
 all_reached k i (Does (Moves p n o) rest) (suc t) h (inl x) le = omega (arith, x.1, reach_above (o + n) rest t h.1)
 all_reached k i (Does (Moves p n o) rest) (suc t) h (inr x) le = all_reached (o + n) i rest t h.1 x (omega (arith, le))
 
--- Targets in pages that differ are places that differ
+-- Targets in different pages are different addresses
 
 split_get : {A : Type 0} (xs ys : List A) (i : ℕ) (x : A) → slice_get (xs ++ ys) i ≡ Some x → (slice_get xs i ≡ Some x) ⊎ ((k : ℕ) × (i ≡ length xs + k) × (slice_get ys k ≡ Some x))
 split_get [] ys i x e = inr (i, omega arith, e)
@@ -572,46 +572,46 @@ bucket_get len i p e = cc
 -- the target of a list's byte is in one of the pages
 pub target_in : (pieces : List Piece) (pages : List ℕ) (i p : ℕ) → list_any crosses_page pieces ≡ false → slice_get (targets Destination (parts_of pieces pages)) i ≡ Some (Place p) → is_among pages (page_of p) ≡ true
 target_in [] pages i p crosses e = absurd cc
-target_in (Bucket len ∷ pieces) pages i p crosses e = go (λ k f. target_in pieces pages k p crosses f) (split_get (replicate len Discarded) (targets Destination (parts_of pieces pages)) i (Place p) (ap (λ (ts : List Target). slice_get ts i) (sym (flat_map-cons (targets_of_part Destination) (part.Bucket len) (parts_of pieces pages))) ∙ e))
+target_in (Bucket len ∷ pieces) pages i p crosses e = by_part (λ k f. target_in pieces pages k p crosses f) (split_get (replicate len Discarded) (targets Destination (parts_of pieces pages)) i (Place p) (ap (λ (ts : List Target). slice_get ts i) (sym (flat_map-cons (targets_of_part Destination) (part.Bucket len) (parts_of pieces pages))) ∙ e))
   where
-    go : ((k : ℕ) → slice_get (targets Destination (parts_of pieces pages)) k ≡ Some (Place p) → is_among pages (page_of p) ≡ true)
+    by_part : ((k : ℕ) → slice_get (targets Destination (parts_of pieces pages)) k ≡ Some (Place p) → is_among pages (page_of p) ≡ true)
         → (slice_get (replicate len Discarded) i ≡ Some (Place p)) ⊎ ((k : ℕ) × (i ≡ length (replicate len Discarded) + k) × (slice_get (targets Destination (parts_of pieces pages)) k ≡ Some (Place p))) → is_among pages (page_of p) ≡ true
-    go ih (inl h) = absurd (bucket_get len i p h)
-    go ih (inr h) = ih h.0 h.2
+    by_part ih (inl h) = absurd (bucket_get len i p h)
+    by_part ih (inr h) = ih h.0 h.2
 target_in (Data offset len ∷ pieces) [] i p crosses e = absurd cc
 target_in (Data offset len ∷ pieces) (page ∷ pages) i p crosses e =
-    go (λ k f. target_in pieces pages k p (or_parts (nat_lt 4096 (offset + len)) (list_any crosses_page pieces) crosses).1 f) (split_get (map (λ place. Place place) (range_with_len (4096 * page + offset) len)) (targets Destination (parts_of pieces pages)) i (Place p)
+    by_part (λ k f. target_in pieces pages k p (or_parts (nat_lt 4096 (offset + len)) (list_any crosses_page pieces) crosses).1 f) (split_get (map (λ place. Place place) (range_with_len (4096 * page + offset) len)) (targets Destination (parts_of pieces pages)) i (Place p)
     (ap (λ (ts : List Target). slice_get ts i) (sym (flat_map-cons (targets_of_part Destination) (part.Data (4096 * page + offset) len) (parts_of pieces pages))) ∙ e))
   where
     c : ((nat_lt 4096 (offset + len)) ≡ false) × (list_any crosses_page pieces ≡ false)
     c = or_parts (nat_lt 4096 (offset + len)) (list_any crosses_page pieces) crosses
 
-    go : ((k : ℕ) → slice_get (targets Destination (parts_of pieces pages)) k ≡ Some (Place p) → is_among pages (page_of p) ≡ true)
+    by_part : ((k : ℕ) → slice_get (targets Destination (parts_of pieces pages)) k ≡ Some (Place p) → is_among pages (page_of p) ≡ true)
         → (slice_get (map (λ place. Place place) (range_with_len (4096 * page + offset) len)) i ≡ Some (Place p)) ⊎ ((k : ℕ) × (i ≡ length (map (λ place. Place place) (range_with_len (4096 * page + offset) len)) + k) × (slice_get (targets Destination (parts_of pieces pages)) k ≡ Some (Place p)))
         → is_among (page ∷ pages) (page_of p) ≡ true
-    go ih (inl h) =
+    by_part ih (inl h) =
         let r = range_get len (4096 * page + offset) i p h in
         or_left (page == page_of p) (is_among pages (page_of p)) (eq-eqb page (page_of p) (sym (ap page_of r.1 ∙ in_page page offset len i (not_crossing offset len c.0) r.0)))
-    go ih (inr h) = or_right (page == page_of p) (is_among pages (page_of p)) (ih h.0 h.2)
+    by_part ih (inr h) = or_right (page == page_of p) (is_among pages (page_of p)) (ih h.0 h.2)
 
 pub targets_differ : (pieces : List Piece) (pages : List ℕ) → list_any crosses_page pieces ≡ false → ((p : ℕ) → times p pages ≤ 1) → (i k p : ℕ)
     → slice_get (targets Destination (parts_of pieces pages)) i ≡ Some (Place p) → slice_get (targets Destination (parts_of pieces pages)) k ≡ Some (Place p) → i ≡ k
 targets_differ [] pages crosses once i k p e f = absurd cc
-targets_differ (Bucket len ∷ pieces) pages crosses once i k p e f = go (λ x y g h. targets_differ pieces pages crosses once x y p g h) (cut i e) (cut k f)
+targets_differ (Bucket len ∷ pieces) pages crosses once i k p e f = by_both_parts (λ x y g h. targets_differ pieces pages crosses once x y p g h) (cut i e) (cut k f)
   where
     cut : (i : ℕ) → slice_get (targets Destination (parts_of (Bucket len ∷ pieces) pages)) i ≡ Some (Place p)
         → (slice_get (replicate len Discarded) i ≡ Some (Place p)) ⊎ ((k : ℕ) × (i ≡ length (replicate len Discarded) + k) × (slice_get (targets Destination (parts_of pieces pages)) k ≡ Some (Place p)))
     cut i e = split_get (replicate len Discarded) (targets Destination (parts_of pieces pages)) i (Place p) (ap (λ (ts : List Target). slice_get ts i) (sym (flat_map-cons (targets_of_part Destination) (part.Bucket len) (parts_of pieces pages))) ∙ e)
 
-    go : ((x y : ℕ) → slice_get (targets Destination (parts_of pieces pages)) x ≡ Some (Place p) → slice_get (targets Destination (parts_of pieces pages)) y ≡ Some (Place p) → x ≡ y)
+    by_both_parts : ((x y : ℕ) → slice_get (targets Destination (parts_of pieces pages)) x ≡ Some (Place p) → slice_get (targets Destination (parts_of pieces pages)) y ≡ Some (Place p) → x ≡ y)
         → (slice_get (replicate len Discarded) i ≡ Some (Place p)) ⊎ ((x : ℕ) × (i ≡ length (replicate len Discarded) + x) × (slice_get (targets Destination (parts_of pieces pages)) x ≡ Some (Place p)))
         → (slice_get (replicate len Discarded) k ≡ Some (Place p)) ⊎ ((x : ℕ) × (k ≡ length (replicate len Discarded) + x) × (slice_get (targets Destination (parts_of pieces pages)) x ≡ Some (Place p))) → i ≡ k
-    go ih (inl h) y = absurd (bucket_get len i p h)
-    go ih (inr h) (inl g) = absurd (bucket_get len k p g)
-    go ih (inr h) (inr g) = omega (arith, h.1, g.1, ih h.0 g.0 h.2 g.2)
+    by_both_parts ih (inl h) y = absurd (bucket_get len i p h)
+    by_both_parts ih (inr h) (inl g) = absurd (bucket_get len k p g)
+    by_both_parts ih (inr h) (inr g) = omega (arith, h.1, g.1, ih h.0 g.0 h.2 g.2)
 targets_differ (Data offset len ∷ pieces) [] crosses once i k p e f = absurd cc
 targets_differ (Data offset len ∷ pieces) (page ∷ pages) crosses once i k p e f =
-    go (λ x y g h. targets_differ pieces pages (or_parts (nat_lt 4096 (offset + len)) (list_any crosses_page pieces) crosses).1 (λ q. omega (arith, once q, times-cons q page pages)) x y p g h) (cut i e) (cut k f)
+    by_both_parts (λ x y g h. targets_differ pieces pages (or_parts (nat_lt 4096 (offset + len)) (list_any crosses_page pieces) crosses).1 (λ q. omega (arith, once q, times-cons q page pages)) x y p g h) (cut i e) (cut k f)
   where
     c : ((nat_lt 4096 (offset + len)) ≡ false) × (list_any crosses_page pieces ≡ false)
     c = or_parts (nat_lt 4096 (offset + len)) (list_any crosses_page pieces) crosses
@@ -623,7 +623,7 @@ targets_differ (Data offset len ∷ pieces) (page ∷ pages) crosses once i k p 
     cut i e = split_get (map (λ place. Place place) (range_with_len (4096 * page + offset) len)) (targets Destination (parts_of pieces pages)) i (Place p)
         (ap (λ (ts : List Target). slice_get ts i) (sym (flat_map-cons (targets_of_part Destination) (part.Data (4096 * page + offset) len) (parts_of pieces pages))) ∙ e)
 
-    -- a place of the first page is none of the others'
+    -- an address of the first page is none of the others'
     apart : (i x : ℕ) → slice_get (map (λ place. Place place) (range_with_len (4096 * page + offset) len)) i ≡ Some (Place p) → slice_get (targets Destination (parts_of pieces pages)) x ≡ Some (Place p) → ⊥
     apart i x h g =
         let r = range_get len (4096 * page + offset) i p h in
@@ -631,8 +631,8 @@ targets_differ (Data offset len ∷ pieces) (page ∷ pages) crosses once i k p 
         let there : is_among pages page ≡ true = ap (is_among pages) (sym here) ∙ target_in pieces pages x p c.1 g in
         omega (arith, once page, times-cons page page pages, held_once page pages there, ap one (eq-eqb page page refl))
 
-    go : ((x y : ℕ) → slice_get (targets Destination (parts_of pieces pages)) x ≡ Some (Place p) → slice_get (targets Destination (parts_of pieces pages)) y ≡ Some (Place p) → x ≡ y) → Part i → Part k → i ≡ k
-    go ih (inl h) (inl g) = omega (arith, (range_get len (4096 * page + offset) i p h).1, (range_get len (4096 * page + offset) k p g).1)
-    go ih (inl h) (inr g) = absurd (apart i g.0 h g.2)
-    go ih (inr h) (inl g) = absurd (apart k h.0 g h.2)
-    go ih (inr h) (inr g) = omega (arith, h.1, g.1, ih h.0 g.0 h.2 g.2)
+    by_both_parts : ((x y : ℕ) → slice_get (targets Destination (parts_of pieces pages)) x ≡ Some (Place p) → slice_get (targets Destination (parts_of pieces pages)) y ≡ Some (Place p) → x ≡ y) → Part i → Part k → i ≡ k
+    by_both_parts ih (inl h) (inl g) = omega (arith, (range_get len (4096 * page + offset) i p h).1, (range_get len (4096 * page + offset) k p g).1)
+    by_both_parts ih (inl h) (inr g) = absurd (apart i g.0 h g.2)
+    by_both_parts ih (inr h) (inl g) = absurd (apart k h.0 g h.2)
+    by_both_parts ih (inr h) (inr g) = omega (arith, h.1, g.1, ih h.0 g.0 h.2 g.2)

@@ -451,7 +451,7 @@ complete_keeps earlier s q cid m far stood h =
     fewer : AllCaused (earlier ++ m ∷ []) (a.image_blocks s) (filter (λ j. not ((j.q == q) && (j.entry.cid == cid))) s.controller.jobs)
     fewer = all-filter (CausedIfIo (earlier ++ m ∷ []) (a.image_blocks s)) (λ j. not ((j.q == q) && (j.entry.cid == cid))) s.controller.jobs (not_fetched earlier m s far h)
 
-    -- the image is as long behind a Write
+    -- the image is as long after a Write
     by_kind : (j : Job) (v : Status) → Caused earlier (a.image_blocks s) j → j.verdict ≡ Some v → is_success v ≡ true → (k : Option Kind) → kind_of_opcode j.entry.opcode ≡ k
         → length (jobs.image_by s.controller.image j.entry j.bytes k) ≡ length s.controller.image
     by_kind j v c jv ok (Some Write) e =
@@ -580,7 +580,7 @@ has_verdict s q cid j none e = grind (arith, first_fails, rest_fails)
 
 given_status : (earlier : List Made) (s : State) (e : Event) (reply : Reply) (new : State) (q cid : ℕ) (st : Status) → Step s e reply new → s.trusted ≡ true → Traced earlier s → (q == 0) ≡ false
     → status_by s e reply q cid ≡ Some st → has_cause earlier (record { before = s; event = e; reply = reply }) q cid st ≡ true
-given_status earlier s (events.Complete q' cid') (events.Completed touched) new q cid st step t h other given = go ((q' == q) && (cid' == cid)) refl given
+given_status earlier s (events.Complete q' cid') (events.Completed touched) new q cid st step t h other given = by_name ((q' == q) && (cid' == cid)) refl given
   where
     m : Made
     m = record { before = s; event = events.Complete q' cid'; reply = events.Completed touched }
@@ -594,13 +594,13 @@ given_status earlier s (events.Complete q' cid') (events.Completed touched) new 
         let c = all-found (CausedIfIo earlier (a.image_blocks s)) (is_job q cid) s.controller.jobs j e h.caused (ap (λ (k : ℕ). k == 0) jq ∙ other) in
         subst (λ (x : Status). has_cause earlier m q cid x ≡ true) same (job_status earlier m q cid j other e jq (eqb-true j.entry.cid cid ids.1) (has_verdict s q cid j none e) c)
 
-    go : (b : Bool) → ((q' == q) && (cid' == cid)) ≡ b → (if b then option_map (final_status s) (job_at s q cid) else None) ≡ Some st → has_cause earlier m q cid st ≡ true
-    go true is g =
+    by_name : (b : Bool) → ((q' == q) && (cid' == cid)) ≡ b → (if b then option_map (final_status s) (job_at s q cid) else None) ≡ Some st → has_cause earlier m q cid st ≡ true
+    by_name true is g =
         let ids = and_parts (q' == q) (cid' == cid) is in
         let ok = permitted _ s.trusted false t step.1 in
         let none : refusal_of s (events.Complete q cid) ≡ None = rw (sym (eqb-true q' q ids.0), sym (eqb-true cid' cid ids.1)) ok.0 in
         at (job_at s q cid) refl none g
-    go false is g = absurd cc
+    by_name false is g = absurd cc
 given_status earlier s e reply new q cid st step t h other given = absurd cc
 
 pub statuses_have_causes : every_status_has_its_cause

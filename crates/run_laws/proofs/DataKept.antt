@@ -47,7 +47,7 @@ one_step Q old e reply new step t u stood each h = left_step Q old e reply new s
 pub stood_step : (old : State) (e : Event) (reply : Reply) (new : State) → Step old e reply new → old.trusted ≡ true → new.trusted ≡ true → Stood old → Stood new
 stood_step old e reply new step t u stood = one_step Stood old e reply new step t u stood (λ x h. stood_on old e reply x.proper x.ok x.trusted h) stood
 
--- along steps of which none passes a test
+-- along steps none of which passes a test
 pub along_steps : (Q : State → Type 0) (test : Made → Bool)
     → ((s : State) (e : Event) (reply : Reply) → Going s e reply → test (record { before = s; event = e; reply = reply }) ≡ false → Q s → Q (a.after s e reply))
     → (made : List Made) (s end : State) → Steps s made end → Unforged s made → Stood s → list_any test made ≡ false → Q s → Stood end × Q end
@@ -173,7 +173,7 @@ found_draft s d reply g =
       only = is_found d.q d.cid s.host.records x.0 x.1 (g.stood.grounds.stands.0.once d.q d.cid);
     }
 
--- another record of its identifier there is none
+-- there is no other record of its identifier
 pub only_drafted : (s : State) (d : DraftContents) (x : Found s d) (r : Record) → (is_at d.q d.cid r ≡ true → r ≡ x.command) → is_at d.q d.cid r ≡ true → goes_on r.phase ≡ true → ⊥
 only_drafted s d x r only at on = true≢false (sym on ∙ ap (λ (y : Record). goes_on y.phase) (only at) ∙ drafted_stops x.command.phase x.drafted)
 
@@ -196,7 +196,7 @@ follow_submit d s reply g =
     let x = found_draft s d reply g in
     records_event (λ r. is_at d.q d.cid r ≡ true → r ≡ x.command) (Follows d) s (events.Submit d) reply (follow_first d s reply g x) g.ok g.stood.grounds x.only
 
--- What a collection finds: the command's held record, and its pages as they stand.
+-- What a collection finds: the command's held record, and its pages as they are.
 
 pub record Collects (s : State) (f : FinishedContents) : Type 0 where
   pub command : Record
@@ -238,7 +238,7 @@ collects_held s (events.Collect q cid) (events.Collects g) new f step t is =
     ]
 collects_held s e reply new f step t is = absurd cc
 
--- The states of a collected command: before its submission, behind it, and at its collection
+-- The states of a collected command: before its submission, after it, and at its collection
 
 pub record Course (c : CollectedCommand) : Type 0 where
   pub first : State

@@ -32,7 +32,7 @@ use Rattle.sgl_chain.{proofs.Back.spells_there, specs.Spells.Spells}
 use Rattle.slot_table.proofs.Rows.{option_is}
 use Rattle.page_memory.proofs.Lists.{all-to, all-found, some_is}
 
--- A command is fetched once: behind its fetch no entry of it is left to fetch.
+-- A command is fetched once: after its fetch no entry of it is left to fetch.
 
 -- no entry of an identifier is left to fetch
 abbrev pub NoEntry : ℕ → ℕ → State → Type 0
@@ -67,11 +67,11 @@ no_entry_step q cid other s e reply g far h = queues_event (λ at. at.unfetched)
 
 -- where none is left, none is fetched
 first_of : (P : SubEntry → Type 0) (qs : List ServedQueue) (q : ℕ) (queue : ServedQueue) (e : SubEntry) → slice_get qs q ≡ Some queue → slice_get queue.unfetched 0 ≡ Some e → AllByRecursion P (list_at (λ at. at.unfetched) qs q) → P e
-first_of P qs q queue e at first all = go queue.unfetched first (subst (AllByRecursion P) (ap (λ (o : Option ServedQueue). option_map_or (λ at. at.unfetched) o []) at) all)
+first_of P qs q queue e at first all = holds_of_first queue.unfetched first (subst (AllByRecursion P) (ap (λ (o : Option ServedQueue). option_map_or (λ at. at.unfetched) o []) at) all)
   where
-    go : (xs : List SubEntry) → slice_get xs 0 ≡ Some e → AllByRecursion P xs → P e
-    go [] f all = absurd cc
-    go (x ∷ xs) f all = let same : x ≡ e = cc in subst P same all.0
+    holds_of_first : (xs : List SubEntry) → slice_get xs 0 ≡ Some e → AllByRecursion P xs → P e
+    holds_of_first [] f all = absurd cc
+    holds_of_first (x ∷ xs) f all = let same : x ≡ e = cc in subst P same all.0
 
 -- the entry that a fetch takes
 pub fetched_entry : (s : State) (q cid c : ℕ) → option_map (λ (e : SubEntry). e.cid) (next_rung s q) ≡ Some c → c ≡ cid → (e : SubEntry) × (next_rung s q ≡ Some e) × (e.cid ≡ cid)
@@ -89,7 +89,7 @@ is_fetch s q cid (events.Fetch k) (events.Fetched c touched) h =
     record { touched = touched; is_event = ap events.Fetch (eqb-true k q both.0); is_reply = ap (λ (n : ℕ). events.Fetched n touched) (eqb-true c cid both.1) }
 is_fetch s q cid e reply h = absurd (true≢false (sym h))
 
--- the state before a fetch, its entry, and the state behind it
+-- the state before a fetch, its entry, and the state after it
 pub record Fetches (s new : State) (q cid : ℕ) : Type 0 where
   pub touched : List ℕ
   pub going : Going s (events.Fetch q) (events.Fetched cid touched)
@@ -112,10 +112,10 @@ none_next q cid s entry h next its =
     let hand = in_hand s q entry next in
     first_of (λ (x : SubEntry). x.cid ≡ cid → ⊥) s.controller.queues q hand.queue entry hand.at hand.first h its
 
--- Behind a fetch
+-- After a fetch
 
 pub fetched_clears : (s new : State) (q cid : ℕ) → (q == 0) ≡ false → Fetches s new q cid → NoEntry q cid new
-fetched_clears s new q cid other f = subst (NoEntry q cid) (sym f.left) (go (next_rung s q) refl)
+fetched_clears s new q cid other f = subst (NoEntry q cid) (sym f.left) (by_entry (next_rung s q) refl)
   where
     hand : InHand s q f.entry
     hand = in_hand s q f.entry f.rung
@@ -148,10 +148,10 @@ fetched_clears s new q cid other f = subst (NoEntry q cid) (sym f.left) (go (nex
     inner e r false true con is0 = absurd (true≢false (sym is0 ∙ other))
     inner e r false false con is0 = (nobody (λ (e : SubEntry). e.cid) cid (λ e. ⊥) (list_at (λ at. at.unfetched) (change q off s.controller.queues) q) few)
 
-    go : (o : Option SubEntry) → next_rung s q ≡ o
+    by_entry : (o : Option SubEntry) → next_rung s q ≡ o
         → NoEntry q cid (option_map_or (λ e. if conflicts s q then a.with_posted_completion q e.cid COMMAND_ID_CONFLICT 0 (a.taken_off q s) else if q == 0 then a.managed e (a.taken_off 0 s) else a.begun q e (a.taken_off q s)) o s)
-    go None r = grind arith
-    go (Some e) r = inner e r (conflicts s q) (q == 0) refl refl
+    by_entry None r = grind arith
+    by_entry (Some e) r = inner e r (conflicts s q) (q == 0) refl refl
 
 -- Along the steps
 
@@ -214,11 +214,11 @@ ChainKnown drafts s r = is_submitted r.phase ≡ true → ChainedIfIo drafts s r
 
 -- a draft that is submitted is not of another submitted command's identifier
 other_draft : (s : State) (e : Event) (reply : Reply) → Going s e reply → (r : Record) → In r s.host.records → is_submitted r.phase ≡ true → (d : DraftContents) → e ≡ events.Submit d → ((d.q == r.q) && (d.cid == r.cid)) ≡ false
-other_draft s e reply g r within sub d is = go ((d.q == r.q) && (d.cid == r.cid)) refl
+other_draft s e reply g r within sub d is = by_name ((d.q == r.q) && (d.cid == r.cid)) refl
   where
-    go : (b : Bool) → ((d.q == r.q) && (d.cid == r.cid)) ≡ b → b ≡ false
-    go false e = refl
-    go true e =
+    by_name : (b : Bool) → ((d.q == r.q) && (d.cid == r.cid)) ≡ b → b ≡ false
+    by_name false e = refl
+    by_name true e =
         let ids = and_parts (d.q == r.q) (d.cid == r.cid) e in
         let x = found_draft s d reply (subst (λ (x : Event). Going s x reply) is g) in
         let counts : sent d.q (λ n. one (n == d.cid)) r ≡ 1 = rw (eq-eqb r.q d.q (sym (eqb-true d.q r.q ids.0)), sub, eq-eqb r.cid d.cid (sym (eqb-true d.cid r.cid ids.1))) refl in
@@ -277,7 +277,7 @@ list_kept m m' qs qs' js js' r request same keeps l = (
 
 -- Its submission
 
--- behind it the entry is among those of its queue
+-- after it the entry is among those of its queue
 entry_posted : (qs : List ServedQueue) (q : ℕ) (at : ServedQueue) (entry : SubEntry) (P : SubEntry → Type 0) → slice_get qs q ≡ Some at
     → AllByRecursion P (unfetched_at (change q (λ at. record at { unfetched = at.unfetched ++ entry ∷ [] }) qs) q) → P entry
 entry_posted [] q at entry P e all = absurd cc

@@ -22,7 +22,7 @@ use Rattle.two_sides.proofs.Served.{good_is}
 use Rattle.std.proofs.lemmas.Bool.{cases_Bool}
 use Rattle.page_memory.proofs.Lists.{found_any, all-found}
 
--- Each draft that a bench keeps is that of a drafted command, and it keeps one of each name at most.
+-- Each draft that a bench keeps is that of a drafted command, and it keeps at most one of each name.
 
 pub record DraftsStand (t : Table) : Type 0 where
   pub drafted : (q cid : ℕ) → list_any (is_draft q cid) t.drafts ≡ true → Drafts q cid t.world.host.records

@@ -1,4 +1,4 @@
--- Between two completions of a command it was submitted anew: from its completion on no entry and no job of it is at the controller.
+-- Between two completions of a command it was submitted anew: after its completion no entry and no job of it is at the controller.
 use Rattle.machine_model.{proofs.{Cases.none_some, Counting.{one, total}, Steps.Accepts}, specs.{Agreeing.on_queue, Events.{Event, Reply}}}
 use Rattle.machine_model.specs.{Refusals.{is_job, job_at, next_rung}, Standing.unfetched_at, State.{State, Controller, Job}, declared.words.Refusal.Refusal}
 use Rattle.std.proofs.Common.{◌≡◌, ℕ, ◌<◌, ◌≤◌, ◌==◌, Bool, true, false, not, ◌&&◌, Option, Some, None, List, [], ◌∷◌, ◌++◌, filter, if◌then◌else◌, ap, sym, ◌∙◌, arith, subst, eqb-true, eq-eqb, inl, inr}
@@ -70,7 +70,7 @@ jobs_completed s q cid j at =
     ∙ ap (λ (d : Controller). d.jobs) (controller-completed q cid st j.dw0 (a.deletion_done j st (finished q cid j s)))
     ∙ grind arith
 
--- behind it nothing of the command is left
+-- after it nothing of the command is left
 over_completion : (s : State) (e : Event) (reply : Reply) (q cid : ℕ) (st : Status) → (q == 0) ≡ false → Going s e reply → status_by s e reply q cid ≡ Some st → IsOver q cid (a.after s e reply)
 over_completion s (events.Complete k c) (events.Completed touched) q cid st other g given =
     let job = given_job s (events.Complete k c) (events.Completed touched) q cid st given in

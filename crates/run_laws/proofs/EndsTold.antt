@@ -100,7 +100,7 @@ deletions_turn done s e reply other ok stood = record {
   walks = λ k c j act e' w u p z is0. deleted_longer (named_queue j.entry) done (made_of s e reply) (subst (λ (x : Event). renews_by (named_queue j.entry) x reply ≡ false) (sym e') refl) (p z is0);
 }
 
--- behind a reset there is no job
+-- after a reset there is no job
 pub deletions_on : (done : List Made) (s : State) (e : Event) (reply : Reply) → Accepts s e reply → Stood s → AllByRecursion (DeletionFetched done) s.controller.jobs
     → AllByRecursion (DeletionFetched (done ++ made_of s e reply ∷ [])) (a.after s e reply).controller.jobs
 deletions_on done s events.Reset events.Accepted ok stood h = tt
@@ -208,7 +208,7 @@ serving_ring s k g hs h = serving_change s k (λ x. record x { ring = g x.ring }
 not_changed : (k : ℕ) (f : HostQueue → HostQueue) (hs : List HostQueue) → ((x : HostQueue) → is_deleting (f x).state ≡ false) → (q : ℕ) (y : HostQueue) → slice_get (change k f hs) q ≡ Some y → is_deleting y.state ≡ true → (k == q) ≡ false
 not_changed k f hs past q y e deleting = grind (arith, changed_at, ne_eqb)
 
--- behind a reset there is none
+-- after a reset there is none
 reset_deletes_none : (s : State) (q : ℕ) (y : HostQueue) → host_queue (a.after_reset s) q ≡ Some y → is_deleting y.state ≡ false
 reset_deletes_none s q y e = sym (ap (λ (o : Option HostQueue). option_map_or (λ x. is_deleting x.state) o false) e) ∙ reset_state is_deleting refl refl s.host.queues q
 
@@ -360,7 +360,7 @@ ended_on earlier m q cid st far (inl c) = inl (completed_on earlier m q cid st f
 ended_on earlier m q cid st far (inr (inl c)) = inr (inl (lost_on earlier m q cid st far c))
 ended_on earlier m q cid st far (inr (inr c)) = inr (inr (reset_on earlier m q cid st far c))
 
--- Whom a submit can't be of
+-- Which commands a submit can't be of
 
 refused_no_submit : (e : Event) (why : Refusal) (touched : List ℕ) (q cid : ℕ) → submits_by q cid e (events.Refused why touched) ≡ false
 refused_no_submit e why touched q cid = grind arith
@@ -543,7 +543,7 @@ held_host done s e reply ok c trusted stood answers gone h =
     still : (e : Event) (reply : Reply) → Accepts s e reply → AllByRecursion (HeldTold (done ++ made_of s e reply ∷ [])) s.host.records
     still e reply ok = all_in (KnownIn s done) (HeldTold (done ++ made_of s e reply ∷ [])) s.host.records (λ r within k. held_stays done s e reply ok r k.1) h
 
-    -- a command that is held no more
+    -- a command that is no longer held
     moved : (e : Event) (reply : Reply) → Accepts s e reply → (q cid : ℕ) (f : Record → Record) → ((r : Record) → is_held (f r).phase ≡ false) → AllByRecursion (HeldTold (done ++ made_of s e reply ∷ [])) (with_record q cid f s.host.records)
     moved e reply ok q cid f free =
         all_map (HeldTold (done ++ made_of s e reply ∷ [])) (HeldTold (done ++ made_of s e reply ∷ [])) (λ r. if is_at q cid r then f r else r) s.host.records (λ r k. each r (is_at q cid r) k) (still e reply ok)
@@ -566,12 +566,12 @@ held_host done s e reply ok c trusted stood answers gone h =
 
 held_event : (done : List Made) (s : State) (e : Event) (reply : Reply) → Accepts s e reply → s.trusted ≡ true → Stood s → ((q : ℕ) → (q == 0) ≡ false → CompletionsTold done q s.controller.queues)
     → GoneTold done s.host.queues s.controller.queues → AllByRecursion (KnownIn s done) s.host.records → AllByRecursion (HeldTold (done ++ made_of s e reply ∷ [])) (a.after s e reply).host.records
-held_event done s e reply ok trusted stood answers gone h = go (IsController e) refl
+held_event done s e reply ok trusted stood answers gone h = by_side (IsController e) refl
   where
-    go : (b : Bool) → IsController e ≡ b → AllByRecursion (HeldTold (done ++ made_of s e reply ∷ [])) (a.after s e reply).host.records
-    go true c = subst (λ (part : HostPart). AllByRecursion (HeldTold (done ++ made_of s e reply ∷ [])) part.host.records) (sym (part_controller s e reply c))
+    by_side : (b : Bool) → IsController e ≡ b → AllByRecursion (HeldTold (done ++ made_of s e reply ∷ [])) (a.after s e reply).host.records
+    by_side true c = subst (λ (part : HostPart). AllByRecursion (HeldTold (done ++ made_of s e reply ∷ [])) part.host.records) (sym (part_controller s e reply c))
         (all_in (KnownIn s done) (HeldTold (done ++ made_of s e reply ∷ [])) s.host.records (λ r within k. held_stays done s e reply ok r k.1) h)
-    go false c = held_host done s e reply ok c trusted stood answers gone h
+    by_side false c = held_host done s e reply ok c trusted stood answers gone h
 
 -- All of it
 

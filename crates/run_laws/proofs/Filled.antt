@@ -30,7 +30,7 @@ use Rattle.two_sides.proofs.Served.{good_is, not_crossing}
 
 -- One piece
 
--- bytes that were written at a place are read there
+-- bytes that were written at an offset are read there
 read_back : (page new : List ℕ) (at len : ℕ) → length new ≡ len → at + len ≤ length page → slice_range (with_bytes page at new) at (at + len) ≡ new
 read_back page new at len long fits =
     ap (take (at + len - at)) dropped ∙ ap (λ (n : ℕ). take n (new ++ drop (at + length new) page)) (omega (arith, long)) ∙ take-append_seam new (drop (at + length new) page)
@@ -41,7 +41,7 @@ read_back page new at len long fits =
         ∙ ap (λ (n : ℕ). drop n (take at page ++ (new ++ drop (at + length new) page))) (sym (length-take-le at page (omega (arith, fits))))
         ∙ drop-append_seam (take at page) (new ++ drop (at + length new) page)
 
--- what stands at a place, written there again, changes nothing; and of two writes there the second counts
+-- what is at an offset, written there again, changes nothing; and of two writes there the second counts
 put_back : (page : List ℕ) (at len : ℕ) → at + len ≤ length page → with_bytes page at (slice_range page at (at + len)) ≡ page
 put_back page at len fits =
     let ends : at + length (slice_range page at (at + len)) ≡ at + len = omega (arith, length-take-le (at + len - at) (drop at page) (omega (arith, length-drop at page, fits))) in
@@ -220,15 +220,15 @@ event_moves t (events.Release f) events.Accepted new is keeps = Stepped (ap (λ 
 event_moves t e r new is keeps = Stepped (ap (λ (x : Table). x.drafts) keeps) e r is (λ k n. refl) (λ k n. (refl, refl))
 
 pub moves : (d : Done) → DraftMove d.before d.what d.answer d.after
-moves d = go (kind d)
+moves d = by_kind (kind d)
   where
-    go : StepKind d → DraftMove d.before d.what d.answer d.after
-    go (OfMachine e at m same) =
+    by_kind : StepKind d → DraftMove d.before d.what d.answer d.after
+    by_kind (OfMachine e at m same) =
         let asks = asked_at d.before d.what e at in
         subst (λ (what : Step). DraftMove d.before what d.answer d.after) (sym asks)
         (subst (λ (answer : Reply). DraftMove d.before (asked e) answer d.after) (sym m.tells)
         (event_moves d.before e m.reply d.after m.step (subst (λ (what : Step). d.after ≡ record (kept d.before what m.reply) { world = d.after.world }) asks m.keeps)))
-    go (OfBench at own same) = own_moves d.before d.what d.answer d.after own
+    by_kind (OfBench at own same) = own_moves d.before d.what d.answer d.after own
 
 -- A draft that a bench keeps, along the steps that don't take it: its request and pages stay, and its bytes are those of its fills.
 
@@ -345,12 +345,12 @@ step_tracked q cid fills t what answer new end d (Stepped drafts e r step untake
     subst (λ (now : List (List ℕ)). Tracked q cid d (now ++ fills) end) (sym (none q cid).0) (on d (ap (draft_of q cid) drafts ∙ found) proper)
 step_tracked q cid fills t what answer new end d (Added k request x step is says drafts none) far found proper on = grind (arith, fills, find_more)
 step_tracked q cid fills t what answer new end d (Filled k n bytes x fill at fits world drafts untaken) far found proper on =
-    subst (λ (now : List (List ℕ)). Tracked q cid d (now ++ fills) end) (sym (fill q cid)) (go ((k == q) && (n == cid)) refl)
+    subst (λ (now : List (List ℕ)). Tracked q cid d (now ++ fills) end) (sym (fill q cid)) (by_name ((k == q) && (n == cid)) refl)
   where
-    go : (b : Bool) → ((k == q) && (n == cid)) ≡ b → Tracked q cid d ((if b then bytes ∷ [] else []) ++ fills) end
-    go false e =
+    by_name : (b : Bool) → ((k == q) && (n == cid)) ≡ b → Tracked q cid d ((if b then bytes ∷ [] else []) ++ fills) end
+    by_name false e =
         on d (ap (draft_of q cid) drafts ∙ find_with_other (is_draft q cid) (is_draft k n) (filled_draft bytes) (λ y. refl) (other_draft q cid k n e) t.drafts ∙ found) proper
-    go true e =
+    by_name true e =
         let both = and_parts (k == q) (n == cid) e in
         let same : x ≡ d =
         only_draft (sym at ∙ ap (λ (m : ℕ). draft_of m n t.drafts) (eqb-true k q both.0) ∙ ap (λ (m : ℕ). draft_of q m t.drafts) (eqb-true n cid both.1) ∙ found) in
@@ -361,11 +361,11 @@ step_tracked q cid fills t what answer new end d (Filled k n bytes x fill at fit
         let rest = on (filled_draft bytes d) now (filled_stays_proper bytes d proper) in
         record { draft = rest.draft; found = rest.found; leaves = leaves_filled bytes d fills rest.draft proper (ap (fill_fault bytes) (sym same) ∙ fits) rest.leaves }
 step_tracked q cid fills t what answer new end d (Built k n x at world drafts none) far found proper on =
-    subst (λ (now : List (List ℕ)). Tracked q cid d (now ++ fills) end) (sym (none q cid).0) (go ((k == q) && (n == cid)) refl)
+    subst (λ (now : List (List ℕ)). Tracked q cid d (now ++ fills) end) (sym (none q cid).0) (by_name ((k == q) && (n == cid)) refl)
   where
-    go : (b : Bool) → ((k == q) && (n == cid)) ≡ b → Tracked q cid d fills end
-    go false e = on d (ap (draft_of q cid) drafts ∙ find_with_other (is_draft q cid) (is_draft k n) built (λ y. refl) (other_draft q cid k n e) t.drafts ∙ found) proper
-    go true e =
+    by_name : (b : Bool) → ((k == q) && (n == cid)) ≡ b → Tracked q cid d fills end
+    by_name false e = on d (ap (draft_of q cid) drafts ∙ find_with_other (is_draft q cid) (is_draft k n) built (λ y. refl) (other_draft q cid k n e) t.drafts ∙ found) proper
+    by_name true e =
         let both = and_parts (k == q) (n == cid) e in
         let now : draft_of q cid new.drafts ≡ Some (built d) =
         ap (draft_of q cid) drafts ∙ ap (λ (m : ℕ). draft_of q cid (with_first (is_draft m n) built t.drafts)) (eqb-true k q both.0)

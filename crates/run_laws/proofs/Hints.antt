@@ -20,11 +20,11 @@ AllNone s = AllByRecursion HasNone s.host.records
 
 -- the completion that is seen hints at nothing
 seen_none : (s : State) (q : ℕ) (entry : ComEntry) → s.trusted ≡ true → seen_entry s q ≡ Some entry → entry.hints ≡ NONE
-seen_none s q entry t seen = go (option_and_then (λ queue. front_completion queue.completions) (served_queue s q)) (sym (seen_trusted s q t) ∙ seen)
+seen_none s q entry t seen = by_completion (option_and_then (λ queue. front_completion queue.completions) (served_queue s q)) (sym (seen_trusted s q t) ∙ seen)
   where
-    go : (o : Option PostedCompletion) → option_map (entry_of q) o ≡ Some entry → entry.hints ≡ NONE
-    go None e = absurd cc
-    go (Some completion) e = ap (λ (x : ComEntry). x.hints) (sym (some_is e))
+    by_completion : (o : Option PostedCompletion) → option_map (entry_of q) o ≡ Some entry → entry.hints ≡ NONE
+    by_completion None e = absurd cc
+    by_completion (Some completion) e = ap (λ (x : ComEntry). x.hints) (sym (some_is e))
 
 hints_move : (s : State) (e : Event) (reply : Reply) → Going s e reply → RecordsMove HasNone HasNone s e
 hints_move s e reply g = record {

@@ -122,7 +122,7 @@ by_opcode drafts s q cid j d v is ok =
 
 completed : (drafts : List DraftContents) (s : State) (q cid : ℕ) (j : Job) → Stood s → Known drafts s → job_at s q cid ≡ Some j → is_some j.verdict ≡ true
     → a.image_completed j s.controller.image ≡ (if is_success (final_status s j) then option_map_or (λ d. written_by d s.controller.image) (draft_of q cid drafts) s.controller.image else s.controller.image)
-completed drafts s q cid j stood known at some = go (j.q == 0) refl
+completed drafts s q cid j stood known at some = by_queue (j.q == 0) refl
   where
     its_queue : j.q ≡ q
     its_queue = eqb-true j.q q (and_parts (j.q == q) (j.entry.cid == cid) (found_is (is_job q cid) s.controller.jobs j at)).0
@@ -135,12 +135,12 @@ completed drafts s q cid j stood known at some = go (j.q == 0) refl
       | inr failed ↦ rw (failed, failed) refl
     ]
 
-    go : (b : Bool) → (j.q == 0) ≡ b → (if b then s.controller.image else jobs.image_after s.controller.image j.entry j.bytes j.verdict)
+    by_queue : (b : Bool) → (j.q == 0) ≡ b → (if b then s.controller.image else jobs.image_after s.controller.image j.entry j.bytes j.verdict)
         ≡ (if is_success (if b then unwrap_or j.verdict SUCCESS else jobs.status_after s.controller.image j.entry j.bytes j.verdict) then option_map_or (λ d. written_by d s.controller.image) (draft_of q cid drafts) s.controller.image else s.controller.image)
-    go true z =
+    by_queue true z =
         let none : draft_of q cid drafts ≡ None = subst (λ (n : ℕ). draft_of n cid drafts ≡ None) (sym (eqb-true j.q 0 z) ∙ its_queue) (known.no_admin cid) in
         sym (ap (λ (o : Option DraftContents). if is_success (unwrap_or j.verdict SUCCESS) then option_map_or (λ d. written_by d s.controller.image) o s.controller.image else s.controller.image) none ∙ same_if (is_success (unwrap_or j.verdict SUCCESS)) s.controller.image)
-    go false z = io (job_draft drafts s q cid j stood known z at) j.verdict refl some
+    by_queue false z = io (job_draft drafts s q cid j stood known z at) j.verdict refl some
 
 complete_image : (drafts : List DraftContents) (s : State) (q cid : ℕ) → refusal_of s (events.Complete q cid) ≡ None → Stood s → Known drafts s
     → (a.after_complete q cid s).controller.image ≡ (if succeeds s q cid then option_map_or (λ d. written_by d s.controller.image) (draft_of q cid drafts) s.controller.image else s.controller.image)
@@ -256,15 +256,15 @@ images_are_runs image made end run = (run_along (Imaged image) (keeps (Imaged im
 -- The status of a compare
 
 bytes_swap : (xs ys : List ℕ) → bytes_eq xs ys ≡ bytes_eq ys xs
-bytes_swap xs ys = go (bytes_eq xs ys) refl (bytes_eq ys xs) refl
+bytes_swap xs ys = by_equality (bytes_eq xs ys) refl (bytes_eq ys xs) refl
   where
     turned : (xs ys : List ℕ) → bytes_eq xs ys ≡ true → bytes_eq ys xs ≡ true
     turned xs ys e = let same : xs ≡ ys = same_lists xs ys e in ap₂ bytes_eq (sym same) same ∙ e
 
-    go : (b : Bool) → bytes_eq xs ys ≡ b → (c : Bool) → bytes_eq ys xs ≡ c → bytes_eq xs ys ≡ bytes_eq ys xs
-    go true e c f = e ∙ sym (turned xs ys e)
-    go false e true f = absurd (true≢false (sym (turned ys xs f) ∙ e))
-    go false e false f = e ∙ sym f
+    by_equality : (b : Bool) → bytes_eq xs ys ≡ b → (c : Bool) → bytes_eq ys xs ≡ c → bytes_eq xs ys ≡ bytes_eq ys xs
+    by_equality true e c f = e ∙ sym (turned xs ys e)
+    by_equality false e true f = absurd (true≢false (sym (turned ys xs f) ∙ e))
+    by_equality false e false f = e ∙ sym f
 
 none_of_three : (s a x b y o u n c z : Bool) → s ≡ false → u ≡ false → (s || (a && x) || (b && y) || (o && u) || n || (c && z)) ≡ true → not (a || b || c) ≡ true → n ≡ true
 none_of_three s a x b y o u n c z failed known h fine = grind arith

@@ -43,19 +43,19 @@ pub placed : (q cid n : ℕ) (drafts rest : List DraftContents) (d : DraftConten
 placed q cid n [] rest d last found = absurd (none-some n last)
 placed q cid n (x ∷ drafts) rest d last found =
     ap (λ (ds : List DraftContents). draft_of q cid ds) (append_assoc (newest_first drafts) (x ∷ []) rest)
-    ∙ go (last_place q cid drafts) refl (λ m is at. placed q cid m drafts (x ∷ rest) d is at) (is_draft q cid x) refl last
+    ∙ by_place (last_place q cid drafts) refl (λ m is at. placed q cid m drafts (x ∷ rest) d is at) (is_draft q cid x) refl last
   where
-    go : (o : Option ℕ) → last_place q cid drafts ≡ o → ((m : ℕ) → last_place q cid drafts ≡ Some m → slice_get drafts m ≡ Some d → draft_of q cid (newest_first drafts ++ x ∷ rest) ≡ Some d)
+    by_place : (o : Option ℕ) → last_place q cid drafts ≡ o → ((m : ℕ) → last_place q cid drafts ≡ Some m → slice_get drafts m ≡ Some d → draft_of q cid (newest_first drafts ++ x ∷ rest) ≡ Some d)
         → (b : Bool) → is_draft q cid x ≡ b → after_first o b ≡ Some n → draft_of q cid (newest_first drafts ++ x ∷ rest) ≡ Some d
-    go (Some m) is further b here at =
+    by_place (Some m) is further b here at =
         let next : n ≡ suc m = cc (at, add-one m) in
         further m is (subst (λ (k : ℕ). slice_get (x ∷ drafts) k ≡ Some d) next found)
-    go None is further true here at =
+    by_place None is further true here at =
         let first : n ≡ 0 = cc at in
         none_placed q cid drafts (x ∷ rest) is ∙ rw here (subst (λ (k : ℕ). slice_get (x ∷ drafts) k ≡ Some d) first found)
-    go None is further false here at = absurd (none-some n at)
+    by_place None is further false here at = absurd (none-some n at)
 
--- Runs, one behind the other
+-- Runs, one after the other
 
 steps_on : (a b c : State) (xs ys : List Made) → Steps a xs b → Steps b ys c → Steps a (xs ++ ys) c
 steps_on a b c [] ys same steps = subst (λ (s : State). Steps s ys c) same steps
@@ -63,11 +63,11 @@ steps_on a b c (m ∷ xs) ys (at, mid, step, rest) steps = (at, mid, step, steps
 
 none_of_both : (xs ys : List Made) → list_any laws.is_forgery xs ≡ false → list_any laws.is_forgery ys ≡ false → list_any laws.is_forgery (xs ++ ys) ≡ false
 none_of_both [] ys one two = two
-none_of_both (x ∷ xs) ys one two = go (laws.is_forgery x) (λ o. none_of_both xs ys o two) one
+none_of_both (x ∷ xs) ys one two = by_forgery (laws.is_forgery x) (λ o. none_of_both xs ys o two) one
   where
-    go : (b : Bool) → (list_any laws.is_forgery xs ≡ false → list_any laws.is_forgery (xs ++ ys) ≡ false) → (b || list_any laws.is_forgery xs) ≡ false → (b || list_any laws.is_forgery (xs ++ ys)) ≡ false
-    go true rest o = absurd (true≢false o)
-    go false rest o = rest o
+    by_forgery : (b : Bool) → (list_any laws.is_forgery xs ≡ false → list_any laws.is_forgery (xs ++ ys) ≡ false) → (b || list_any laws.is_forgery xs) ≡ false → (b || list_any laws.is_forgery (xs ++ ys)) ≡ false
+    by_forgery true rest o = absurd (true≢false o)
+    by_forgery false rest o = rest o
 
 unforged : (b : Bool) → IsTrue (not b) → b ≡ false
 unforged true h = absurd (true≢false (sym h))

@@ -28,12 +28,12 @@ use Rattle.page_memory.proofs.Lists.{all-append, found_is, all-found}
 
 -- The machine's steps that a bench's steps are, with the values that it keeps.
 
--- A step of a bench is a step of the machine, or one of a kept value alone; and the machine's steps of several, one behind the other.
+-- A step of a bench is a step of the machine, or one of a kept value alone; and the machine's steps of several, one after the other.
 
 abbrev pub made_at : State → Event → events.Reply → Made
 made_at s e r = record { before = s; event = e; reply = r }
 
--- the machine's steps from one step of a bench on
+-- the machine's steps starting at one step of a bench
 abbrev pub first_made : Done → List Made → List Made
 first_made d made = made_from (event_at d.before d.what) d.before d.what d.answer d.after d.does made
 
@@ -42,11 +42,11 @@ pub data StepKind (d : Done) : Type 0 where
   OfBench : event_at d.before d.what ≡ None → IsOwn d.before d.what d.answer d.after → ((made : List Made) → first_made d made ≡ made) → StepKind d
 
 pub kind : (d : Done) → StepKind d
-kind d = go (event_at d.before d.what) refl d.does (λ made. refl)
+kind d = by_event (event_at d.before d.what) refl d.does (λ made. refl)
   where
-    go : (o : Option Event) → event_at d.before d.what ≡ o → (does : DoesBy o d.before d.what d.answer d.after) → ((made : List Made) → first_made d made ≡ made_from o d.before d.what d.answer d.after does made) → StepKind d
-    go (Some e) at m same = OfMachine e at m same
-    go None at own same = OfBench at own same
+    by_event : (o : Option Event) → event_at d.before d.what ≡ o → (does : DoesBy o d.before d.what d.answer d.after) → ((made : List Made) → first_made d made ≡ made_from o d.before d.what d.answer d.after does made) → StepKind d
+    by_event (Some e) at m same = OfMachine e at m same
+    by_event None at own same = OfBench at own same
 
 from_behind : (o : Option Event) (t : Table) (what : Step) (answer : Reply) (new : Table) (does : DoesBy o t what answer new) (made more : List Made)
     → made_from o t what answer new does (made ++ more) ≡ made_from o t what answer new does made ++ more
@@ -57,7 +57,7 @@ pub made_by-append : (xs ys : List Done) → made_by (xs ++ ys) ≡ made_by xs +
 made_by-append [] ys = refl
 made_by-append (d ∷ xs) ys = ap (first_made d) (made_by-append xs ys) ∙ from_behind (event_at d.before d.what) d.before d.what d.answer d.after d.does (made_by xs) (made_by ys)
 
--- What stands behind the tickets and the finished commands that a bench keeps, in the steps that the machine made.
+-- What backs the tickets and the finished commands that a bench keeps, in the steps that the machine made.
 
 -- a command was submitted and collected in these steps
 pub record WasCollected (made : List Made) (f : FinishedContents) : Type 0 where
@@ -76,7 +76,7 @@ pub record WasCollected (made : List Made) (f : FinishedContents) : Type 0 where
   pub alone : list_any (submits f.q f.cid) between ≡ false
   pub once : list_any (collects f.q f.cid) later ≡ false
 
--- so was each command that is kept, and each ticket's was submitted; of each name one is kept at most, whose record is collected
+-- so was each command that is kept, and each ticket's was submitted; of each name at most one is kept, whose record is collected
 pub record AreFrom (made : List Made) (t : Table) : Type 0 where
   pub tickets : (q cid : ℕ) → list_any (is_ticket q cid) t.tickets ≡ true → list_any (submits q cid) made ≡ true
   pub finished : AllByRecursion (WasCollected made) t.finished
@@ -241,15 +241,15 @@ collected_more made t q cid f world there step h =
         let is = is_name k n late in
         absurd (true≢false (sym (rw ((eq-eqb q k is.0), (eq-eqb cid n is.1)) refl) ∙ far k n e))
 
--- What stands behind the values that a bench keeps, behind each of its steps.
+-- What backs the values that a bench keeps, after each of its steps.
 
 -- a step of a kept value alone keeps the tickets and the finished commands
 pub own_from : (past : List Made) (t : Table) (what : Step) (answer : Reply) (new : Table) → IsOwn t what answer new → AreFrom past t → AreFrom past new
-own_from past t what answer new is h = go (own_left t what answer new is)
+own_from past t what answer new is h = by_change (own_left t what answer new is)
   where
-    go : OwnLeft t new → AreFrom past new
-    go (Same same) = subst (AreFrom past) (sym same) h
-    go (Changed test f proper same) = subst (AreFrom past) (sym same) (record { tickets = h.tickets; finished = h.finished; stands = h.stands; few = h.few })
+    by_change : OwnLeft t new → AreFrom past new
+    by_change (Same same) = subst (AreFrom past) (sym same) h
+    by_change (Changed test f proper same) = subst (AreFrom past) (sym same) (record { tickets = h.tickets; finished = h.finished; stands = h.stands; few = h.few })
 
 ticket_there : (t : Table) (q cid : ℕ) → event_at t (step.Collect q cid) ≡ Some (events.Collect q cid) → list_any (is_ticket q cid) t.tickets ≡ true
 ticket_there t q cid at = grind arith
@@ -303,11 +303,11 @@ reset = record { outside = λ d at. none_reset d.before d.what at; same = λ d e
 
 same_any : (test : Done → Bool) (its : Made → Bool) → GoesBy test its → (done : List Done) → list_any test done ≡ list_any its (made_by done)
 same_any test its by [] = refl
-same_any test its by (d ∷ done) = go (kind d) (same_any test its by done)
+same_any test its by (d ∷ done) = by_kind (kind d) (same_any test its by done)
   where
-    go : StepKind d → list_any test done ≡ list_any its (made_by done) → (test d || list_any test done) ≡ list_any its (first_made d (made_by done))
-    go (OfMachine e at m same) rest = ap₂ (λ (x y : Bool). x || y) (by.same d e m.reply (asked_at d.before d.what e at) m.tells) rest ∙ sym (ap (list_any its) (same (made_by done)))
-    go (OfBench at own same) rest = ap (λ (x : Bool). x || list_any test done) (by.outside d at) ∙ rest ∙ sym (ap (list_any its) (same (made_by done)))
+    by_kind : StepKind d → list_any test done ≡ list_any its (made_by done) → (test d || list_any test done) ≡ list_any its (first_made d (made_by done))
+    by_kind (OfMachine e at m same) rest = ap₂ (λ (x y : Bool). x || y) (by.same d e m.reply (asked_at d.before d.what e at) m.tells) rest ∙ sym (ap (list_any its) (same (made_by done)))
+    by_kind (OfBench at own same) rest = ap (λ (x : Bool). x || list_any test done) (by.outside d at) ∙ rest ∙ sym (ap (list_any its) (same (made_by done)))
 
 pub same_forgeries : (done : List Done) → list_any is_forgery done ≡ list_any laws.is_forgery (made_by done)
 same_forgeries = same_any is_forgery laws.is_forgery forgery
@@ -315,16 +315,16 @@ same_forgeries = same_any is_forgery laws.is_forgery forgery
 same_resets : (done : List Done) → list_any is_reset done ≡ list_any laws.is_reset (made_by done)
 same_resets = same_any is_reset laws.is_reset reset
 
--- Steps behind the last reset
+-- Steps after the last reset
 
 all_since : (made : List Made) → list_any laws.is_reset made ≡ false → histories.since_reset made ≡ made
 all_since [] none = refl
 all_since (m ∷ made) none = let both = or_parts (laws.is_reset m) (list_any laws.is_reset made) none in rw (both.1, both.0) refl
 
--- are those of the machine's steps behind its last reset
+-- are those of the machine's steps after its last reset
 pub same_since : (done : List Done) → made_by (since_reset done) ≡ histories.since_reset (made_by done)
 same_since [] = refl
-same_since (d ∷ done) = parts (list_any is_reset done) (is_reset d) ∙ go (kind d) (same_since done)
+same_since (d ∷ done) = parts (list_any is_reset done) (is_reset d) ∙ by_kind (kind d) (same_since done)
   where
     parts : (b c : Bool) → made_by (if b then since_reset done else if c then done else (d ∷ done)) ≡ (if b then made_by (since_reset done) else if c then made_by done else first_made d (made_by done))
     parts b c = grind arith
@@ -334,11 +334,11 @@ same_since (d ∷ done) = parts (list_any is_reset done) (is_reset d) ∙ go (ki
     stays false true any = sym (all_since (made_by done) (sym any))
     stays false false any = sym (all_since (made_by done) (sym any))
 
-    go : StepKind d → made_by (since_reset done) ≡ histories.since_reset (made_by done)
+    by_kind : StepKind d → made_by (since_reset done) ≡ histories.since_reset (made_by done)
         → (if list_any is_reset done then made_by (since_reset done) else if is_reset d then made_by done else first_made d (made_by done)) ≡ histories.since_reset (first_made d (made_by done))
-    go (OfMachine e at m same) rest =
+    by_kind (OfMachine e at m same) rest =
         rw (same (made_by done), rest, same_resets done, reset.same d e m.reply (asked_at d.before d.what e at) m.tells) refl
-    go (OfBench at own same) rest = rw (same (made_by done), rest) (stays (list_any is_reset done) (is_reset d) (same_resets done))
+    by_kind (OfBench at own same) rest = rw (same (made_by done), rest) (stays (list_any is_reset done) (is_reset d) (same_resets done))
 
 -- The steps of a bench make a trusted run with the values that it keeps.
 
@@ -362,17 +362,17 @@ steps_made : (t : Table) (done : List Done) (end : Table) → Goes t done end �
 steps_made t [] end is = ap (λ (x : Table). x.world) is
 steps_made t (d ∷ done) end (at, rest) = grind (arith, steps_made d.after done end, steps_from)
 
--- what stands behind the kept values then
+-- what backs the kept values then
 pub are_from : (past : List Made) (t : Table) (done : List Done) (end : Table) → AreFrom past t → Goes t done end → AreFrom (past ++ made_by done) end
 are_from past t [] end from is = subst (λ (l : List Made). AreFrom l end) (sym (append-nil past)) (subst (AreFrom past) (sym is) from)
-are_from past t (d ∷ done) end from (at, rest) = go (kind d) (subst (AreFrom past) (sym at) from) (λ past from. are_from past d.after done end from rest)
+are_from past t (d ∷ done) end from (at, rest) = by_kind (kind d) (subst (AreFrom past) (sym at) from) (λ past from. are_from past d.after done end from rest)
   where
-    go : StepKind d → AreFrom past d.before → ((past : List Made) → AreFrom past d.after → AreFrom (past ++ made_by done) end) → AreFrom (past ++ first_made d (made_by done)) end
-    go (OfMachine e is m same) from rest =
+    by_kind : StepKind d → AreFrom past d.before → ((past : List Made) → AreFrom past d.after → AreFrom (past ++ made_by done) end) → AreFrom (past ++ first_made d (made_by done)) end
+    by_kind (OfMachine e is m same) from rest =
         let made = made_at d.before.world e m.reply in
         subst (λ (l : List Made). AreFrom l end) (append_assoc past (made ∷ []) (made_by done) ∙ ap (λ (l : List Made). past ++ l) (sym (same (made_by done))))
         (rest (past ++ made ∷ []) (makes_from past d.before d.what e d.answer d.after is m from))
-    go (OfBench is own same) from rest =
+    by_kind (OfBench is own same) from rest =
         subst (λ (l : List Made). AreFrom (past ++ l) end) (sym (same (made_by done))) (rest past (own_from past d.before d.what d.answer d.after own from))
 
 -- Runs since the opening
@@ -420,14 +420,14 @@ record IsCompletion (q cid : ℕ) (d : Done) : Type 0 where
   first : (made : List Made) → first_made d made ≡ made_at d.before.world (events.Complete q cid) (events.Completed touched) ∷ made
 
 completion : (q cid : ℕ) (d : Done) (touched : List ℕ) → d.what ≡ step.Complete q cid → d.answer ≡ reply.Completed touched → IsCompletion q cid d
-completion q cid d touched what answer = go (kind d)
+completion q cid d touched what answer = by_kind (kind d)
   where
-    go : StepKind d → IsCompletion q cid d
-    go (OfMachine e at m same) =
+    by_kind : StepKind d → IsCompletion q cid d
+    by_kind (OfMachine e at m same) =
         let asks : e ≡ events.Complete q cid = inside (sym at ∙ (ap (event_at d.before) what)) in
         let tells : m.reply ≡ events.Completed touched = completed_told m.reply touched (sym m.tells ∙ answer) in
         record { touched = touched; first = λ made. same made ∙ ap₂ (λ (x : Event) (r : events.Reply). made_at d.before.world x r ∷ made) asks tells }
-    go (OfBench at own same) = absurd (let bad : None ≡ Some (events.Complete q cid) = sym at ∙ (ap (event_at d.before) what) in cc)
+    by_kind (OfBench at own same) = absurd (let bad : None ≡ Some (events.Complete q cid) = sym at ∙ (ap (event_at d.before) what) in cc)
 
 -- the image before a step of a run
 image_then : (image : List ℕ) (before : List Made) (m : Made) (later : List Made) (end : State) → TrustedRun image (before ++ m ∷ later) end → m.before.controller.image ≡ image_after image before
@@ -491,10 +491,10 @@ heads e = (cc, cc)
 pub split_made : (done : List Done) (xs : List Made) (m : Made) (ys : List Made) → made_by done ≡ xs ++ m ∷ ys → SplitAt done xs m ys
 split_made [] [] m ys h = absurd cc
 split_made [] (x ∷ xs) m ys h = absurd cc
-split_made (d ∷ done) xs m ys h = go (kind d) xs h (λ zs k. split_made done zs m ys k)
+split_made (d ∷ done) xs m ys h = by_kind (kind d) xs h (λ zs k. split_made done zs m ys k)
   where
-    go : StepKind d → (xs : List Made) → first_made d (made_by done) ≡ xs ++ m ∷ ys → ((xs : List Made) → made_by done ≡ xs ++ m ∷ ys → SplitAt done xs m ys) → SplitAt (d ∷ done) xs m ys
-    go (OfBench at own same) xs h rest =
+    by_kind : StepKind d → (xs : List Made) → first_made d (made_by done) ≡ xs ++ m ∷ ys → ((xs : List Made) → made_by done ≡ xs ++ m ∷ ys → SplitAt done xs m ys) → SplitAt (d ∷ done) xs m ys
+    by_kind (OfBench at own same) xs h rest =
         let r = rest xs (sym (same (made_by done)) ∙ h) in
         record {
           earlier = d ∷ r.earlier;
@@ -505,10 +505,10 @@ split_made (d ∷ done) xs m ys h = go (kind d) xs h (λ zs k. split_made done z
           is_of = r.is_of;
           behind = r.behind;
         }
-    go (OfMachine e at makes same) [] h rest =
+    by_kind (OfMachine e at makes same) [] h rest =
         let both = heads (sym (same (made_by done)) ∙ h) in
         record { earlier = []; at = d; later = done; parts = refl; before = refl; is_of = subst (IsOf d) both.0 (record { event = at; tells = makes.tells }); behind = both.1 }
-    go (OfMachine e at makes same) (x ∷ xs) h rest =
+    by_kind (OfMachine e at makes same) (x ∷ xs) h rest =
         let both = heads (sym (same (made_by done)) ∙ h) in
         let r = rest xs both.1 in
         record {
@@ -590,11 +590,11 @@ keeps_command image done end q cid f b kept =
     )
 
 pub gathers_command : gathered_bytes_are_of_collected_commands
-gathers_command image done end new q cid bytes b does = go (finished_at q cid end.finished) refl does
+gathers_command image done end new q cid bytes b does = by_finished (finished_at q cid end.finished) refl does
   where
-    go : (o : Option FinishedContents) → finished_at q cid end.finished ≡ o → Gathers end o (reply.Gathered bytes) new → GathersCommand image done end q cid bytes
-    go None e is = absurd (cc (is.0))
-    go (Some f) e is =
+    by_finished : (o : Option FinishedContents) → finished_at q cid end.finished ≡ o → Gathers end o (reply.Gathered bytes) new → GathersCommand image done end q cid bytes
+    by_finished None e is = absurd (cc (is.0))
+    by_finished (Some f) e is =
         let k = keeps_command image done end q cid f b e in
         record { keeps = k.0; gathers = is.0 ∙ ap gathered_from (sym k.1) }
 

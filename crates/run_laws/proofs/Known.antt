@@ -153,7 +153,7 @@ all_pages : (m : Pages) (pages : PagesOut) → ArePages pages → AllByRecursion
 all_pages m [] whole h = tt
 all_pages m (page ∷ pages) whole h = ((h.0, All-head (λ (page : ℕ × List ℕ). IsPage page.1) page pages whole), all_pages m pages (All-tail (λ (page : ℕ × List ℕ). IsPage page.1) page pages whole) h.1)
 
--- the data pages of a draft that is submitted stand in the store
+-- the data pages of a draft that is submitted are in the store
 pub submitted_stand : (s : State) (d : DraftContents) (entry : SubEntry) → refusal_of s (events.Submit d) ≡ None → ArePages d.data_pages → Grounds s
     → AllByRecursion (Stands (a.posted d.q entry (a.on_records (with_record d.q d.cid a.submitted) (a.on_memory (with_pages (d.data_pages ++ d.chain_pages)) s))).memory) d.data_pages
 submitted_stand s d entry none whole g =
@@ -216,7 +216,7 @@ course_stays s e reply ok stood j l =
     let stay = lists_stay s e reply ok stood in
     same_list s (a.after s e reply) stood j l (stay.chains l.command l.within l.phase) (stay.own l.command l.within l.phase)
 
--- what so many units carry is the same after the event
+-- what this many units carry is the same after the event
 still_carried : (s : State) (e : Event) (reply : Reply) → Accepts s e reply → Stood s → (j : Job) (l : JobList s j) → direction_of_entry j.entry ≡ Source → (t : ℕ) (bytes : List ℕ)
     → carried (a.after s e reply).memory (take t (units (course_of (a.after s e reply) j))) bytes ≡ carried s.memory (take t (units (course_of s j))) bytes
 still_carried s e reply ok stood j l dir t bytes =

@@ -33,7 +33,8 @@ use Rattle.run_laws.specs.Ends.{completions_of, front, reaps_answer_the_front, n
 use Rattle.slot_table.proofs.Rows.{option_is}
 use Rattle.page_memory.proofs.Lists.{found_is, all-found, some_is}
 
--- The heads that the completions of a queue tell never come back: each is as near to the tail as the one before it, the first as the head that the host knows, and what is not fetched is nearer than all.
+-- The heads that the completions of a queue tell never go back: each is as near to the tail as the one before it, the first as the head that the host knows, and
+-- what is not fetched is nearer than all.
 
 abbrev pub Falls : (n tail top : ℕ) → List PostedCompletion → (unfetched : ℕ) → Type 0
 Falls n tail top [] u = u ≤ top
@@ -105,7 +106,7 @@ longer (y ∷ xs) x = ap suc (longer xs x)
 pub shorter : {A : Type 0} (xs : List A) → length (drop 1 xs) ≤ length xs
 shorter xs = grind arith
 
--- one entry more, where the ring has room
+-- one more entry, where the ring has room
 pub at_posted : (n : ℕ) (queue : HostQueue) (at : ServedQueue) → IsInRing n queue.ring → is_full n queue.ring.known_head queue.ring.tail ≡ false → FallsAt n queue.ring at
     → Falls n (next_slot n queue.ring.tail) (distance n queue.ring.known_head (next_slot n queue.ring.tail)) at.completions (suc (length at.unfetched))
 at_posted n queue at ring room h = grind (arith, distance_below, eqb-false, distance_grows, posts_completion, falls_posted)
@@ -261,7 +262,7 @@ fall_host_event s e reply ok c t g h =
       resets = λ q queue at eh eq. reset_falls s.controller.queues q at s.entries queue.ring eq;
     })
   where
-    -- an entry more, where the ring has room
+    -- one more entry, where the ring has room
     posts : (q : ℕ) (entry : SubEntry) (hs : List HostQueue) → ((queue : HostQueue) → slice_get hs q ≡ Some queue → host_queue s q ≡ Some queue) → queue_full s q ≡ false → AllFall s.entries hs s.controller.queues
         → AllFall s.entries (change q (λ x. record x { ring = next_tail s.entries x.ring }) hs) (change q (λ at. record at { unfetched = at.unfetched ++ entry ∷ [] }) s.controller.queues)
     posts q entry hs same room all =
@@ -285,7 +286,7 @@ fall_host_event s e reply ok c t g h =
     served : (q : ℕ) (queue x : HostQueue) → host_queue s q ≡ Some queue → host_queue s q ≡ Some x → in_service queue.state ≡ false → in_service x.state ≡ false
     served q queue x there ex out = let same : queue ≡ x = cc (there, ex) in subst (λ (y : HostQueue). in_service y.state ≡ false) same out
 
-    -- nothing stands in the rings of a queue out of service
+    -- nothing is in the rings of a queue out of service
     fresh : (x : HostQueue) (at : ServedQueue) → in_service x.state ≡ false → (q : ℕ) → host_queue s q ≡ Some x → slice_get s.controller.queues q ≡ Some at → FallsAt s.entries fresh_host_ring at
     fresh x at out q ex ea =
         let pair = pair_at s g q x ex in
@@ -336,7 +337,7 @@ near_tail n known head tail k h t le = grind (arith, distance_is n head tail, di
 in_range : (n known head tail : ℕ) → head < n → distance n known head ≤ distance n known tail → is_in_range n known tail head ≡ true
 in_range n known head tail h le = grind (arith, nat_tests)
 
--- the front completion is that of a submitted command
+-- the first completion is that of a submitted command
 completed_record : (s : State) → Stood s → (q : ℕ) (at : ServedQueue) (an : PostedCompletion) (rest : List PostedCompletion) → served_queue s q ≡ Some at → at.completions ≡ an ∷ rest
     → (r : Record) × (record_at s.host q an.cid ≡ Some r) × (is_submitted r.phase ≡ true)
 completed_record s stood q at an rest e is = grind (arith, completions_at, posts_completion, total, eq-eqb, sent_found)
@@ -547,7 +548,7 @@ runs_tell_once image earlier first between second later end q cid st st' run io 
 
 -- Ending: a reap, a retirement or a reset
 
--- behind it the command is submitted no more
+-- after it the command is no longer submitted
 retire_leaves : (s : State) (q cid : ℕ) → AllByRecursion (NotIn is_submitted q cid) (a.after_retire q s).host.records
 retire_leaves s q cid = subst (AllByRecursion (NotIn is_submitted q cid)) (sym (grind arith)) (lost s.host.records)
   where

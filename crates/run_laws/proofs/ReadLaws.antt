@@ -130,33 +130,33 @@ runs_tell_ends image earlier later m end q cid f run is_event is_reply =
 
 one_of_seven : (earlier : List Made) (q cid : ℕ) (st : Status) (c : WasCompleted earlier q cid st) → CauseOfEnd earlier q cid st
 one_of_seven earlier q cid st c =
-    go (is_success st) refl (same_status st ABORT_REQUESTED && list_any (aborts q cid) (since_fetch q cid c.before)) refl (same_status st ABORTED_SQ_DELETION && list_any (deletes q) (since_fetch q cid c.before)) refl
+    by_cause (is_success st) refl (same_status st ABORT_REQUESTED && list_any (aborts q cid) (since_fetch q cid c.before)) refl (same_status st ABORTED_SQ_DELETION && list_any (deletes q) (since_fetch q cid c.before)) refl
     (same_status st INVALID_OPCODE && is_unknown c.completion q cid) refl (same_status st INVALID_NAMESPACE && misses_namespace c.completion q cid) refl
     (same_status st LBA_OUT_OF_RANGE && passes_image c.completion q cid) refl (same_status st COMPARE_FAILURE && is_compare c.completion q cid) refl c.cause
   where
-    go : (v : Bool) → is_success st ≡ v → (w : Bool) → (same_status st ABORT_REQUESTED && list_any (aborts q cid) (since_fetch q cid c.before)) ≡ w
+    by_cause : (v : Bool) → is_success st ≡ v → (w : Bool) → (same_status st ABORT_REQUESTED && list_any (aborts q cid) (since_fetch q cid c.before)) ≡ w
         → (x : Bool) → (same_status st ABORTED_SQ_DELETION && list_any (deletes q) (since_fetch q cid c.before)) ≡ x → (o : Bool) → (same_status st INVALID_OPCODE && is_unknown c.completion q cid) ≡ o
         → (n : Bool) → (same_status st INVALID_NAMESPACE && misses_namespace c.completion q cid) ≡ n
         → (y : Bool) → (same_status st LBA_OUT_OF_RANGE && passes_image c.completion q cid) ≡ y → (z : Bool) → (same_status st COMPARE_FAILURE && is_compare c.completion q cid) ≡ z
         → (v || w || x || o || n || y || z) ≡ true → CauseOfEnd earlier q cid st
-    go true e w ew x ex o eo n en y ey z ez h = Succeeded c (same_is st SUCCESS e)
-    go false e true ew x ex o eo n en y ey z ez h = let p = and_parts (same_status st ABORT_REQUESTED) (list_any (aborts q cid) (since_fetch q cid c.before)) ew in Aborted c (same_is st ABORT_REQUESTED p.0) p.1
-    go false e false ew true ex o eo n en y ey z ez h = let p = and_parts (same_status st ABORTED_SQ_DELETION) (list_any (deletes q) (since_fetch q cid c.before)) ex in Stopped c (same_is st ABORTED_SQ_DELETION p.0) p.1
-    go false e false ew false ex true eo n en y ey z ez h = let p = and_parts (same_status st INVALID_OPCODE) (is_unknown c.completion q cid) eo in Unknown c (same_is st INVALID_OPCODE p.0) p.1
-    go false e false ew false ex false eo true en y ey z ez h = let p = and_parts (same_status st INVALID_NAMESPACE) (misses_namespace c.completion q cid) en in WithoutNamespace c (same_is st INVALID_NAMESPACE p.0) p.1
-    go false e false ew false ex false eo false en true ey z ez h = let p = and_parts (same_status st LBA_OUT_OF_RANGE) (passes_image c.completion q cid) ey in PastImage c (same_is st LBA_OUT_OF_RANGE p.0) p.1
-    go false e false ew false ex false eo false en false ey true ez h = let p = and_parts (same_status st COMPARE_FAILURE) (is_compare c.completion q cid) ez in Differed c (same_is st COMPARE_FAILURE p.0) p.1
-    go false e false ew false ex false eo false en false ey false ez h = absurd (true≢false (sym h))
+    by_cause true e w ew x ex o eo n en y ey z ez h = Succeeded c (same_is st SUCCESS e)
+    by_cause false e true ew x ex o eo n en y ey z ez h = let p = and_parts (same_status st ABORT_REQUESTED) (list_any (aborts q cid) (since_fetch q cid c.before)) ew in Aborted c (same_is st ABORT_REQUESTED p.0) p.1
+    by_cause false e false ew true ex o eo n en y ey z ez h = let p = and_parts (same_status st ABORTED_SQ_DELETION) (list_any (deletes q) (since_fetch q cid c.before)) ex in Stopped c (same_is st ABORTED_SQ_DELETION p.0) p.1
+    by_cause false e false ew false ex true eo n en y ey z ez h = let p = and_parts (same_status st INVALID_OPCODE) (is_unknown c.completion q cid) eo in Unknown c (same_is st INVALID_OPCODE p.0) p.1
+    by_cause false e false ew false ex false eo true en y ey z ez h = let p = and_parts (same_status st INVALID_NAMESPACE) (misses_namespace c.completion q cid) en in WithoutNamespace c (same_is st INVALID_NAMESPACE p.0) p.1
+    by_cause false e false ew false ex false eo false en true ey z ez h = let p = and_parts (same_status st LBA_OUT_OF_RANGE) (passes_image c.completion q cid) ey in PastImage c (same_is st LBA_OUT_OF_RANGE p.0) p.1
+    by_cause false e false ew false ex false eo false en false ey true ez h = let p = and_parts (same_status st COMPARE_FAILURE) (is_compare c.completion q cid) ez in Differed c (same_is st COMPARE_FAILURE p.0) p.1
+    by_cause false e false ew false ex false eo false en false ey false ez h = absurd (true≢false (sym h))
 
 pub runs_have_causes : every_collect_has_its_cause
-runs_have_causes image earlier later m end q cid f run is_event is_reply = go (runs_tell_ends image earlier later m end q cid f run is_event is_reply)
+runs_have_causes image earlier later m end q cid f run is_event is_reply = by_end (runs_tell_ends image earlier later m end q cid f run is_event is_reply)
   where
-    go : WasCompleted earlier q cid f.status ⊎ WasLost earlier q cid f.status ⊎ WasLostByReset earlier q cid f.status → CauseOfEnd earlier q cid f.status
-    go (inl c) = one_of_seven earlier q cid f.status c
-    go (inr (inl c)) = Lost c
-    go (inr (inr c)) = LostByReset c
+    by_end : WasCompleted earlier q cid f.status ⊎ WasLost earlier q cid f.status ⊎ WasLostByReset earlier q cid f.status → CauseOfEnd earlier q cid f.status
+    by_end (inl c) = one_of_seven earlier q cid f.status c
+    by_end (inr (inl c)) = Lost c
+    by_end (inr (inr c)) = LostByReset c
 
--- The laws of Reads: one that ended well gives its blocks, and one that was stopped so many of their first bytes.
+-- The laws of Reads: one that ended well gives its blocks, and one that was stopped a prefix of their bytes.
 
 images_none : (at : Images) (ys : List Made) (q cid : ℕ) → list_any (fetches q cid) ys ≡ false → images_of at ys q cid ≡ at q cid
 images_none at [] q cid h = refl

@@ -34,7 +34,7 @@ use Rattle.two_sides.proofs.{Served.{good_is, Stood, data_of, entry_direction, p
 use Rattle.two_sides.proofs.Untouched.{owned_once, among_counts, IsSubmittedPage, untouched_kept}
 use Rattle.page_memory.proofs.Lists.{all-at, found_is, all-found, some_is, all-slots}
 
--- What is known of Reads: so many of their blocks' bytes stand in their data pages, and the draft's own behind them.
+-- What is known of Reads: a prefix of their blocks' bytes is in their data pages, and the draft's own after it.
 
 -- the image at the latest fetch of a command
 abbrev pub Images : Type 0
@@ -252,7 +252,7 @@ targets_length s r request m w kind =
 -- a job that begins
 begun_reading : (s : State) (t : State) (at : Images) (r : Record) (request : Request) → Member s r → r.work ≡ Io request → request.kind ≡ Read → (q : ℕ) (e : SubEntry) (sgl1 : List ℕ) → e ≡ io_entry r.cid request sgl1
     → at r.q r.cid ≡ s.controller.image → (k : ℕ) → k ≡ 0 → length t.controller.image ≡ length s.controller.image → goes_well (io_fault (a.image_blocks s) e) ≡ true → Reading at t r request k (begun_job s q e)
-begun_reading s t at r request m w kind q e sgl1 is image k none same well = go (io_fault (a.image_blocks s) e) refl well
+begun_reading s t at r request m w kind q e sgl1 is image k none same well = by_fault (io_fault (a.image_blocks s) e) refl well
   where
     reads : kind_of_opcode e.opcode ≡ Some Read
     reads = ap (λ (x : SubEntry). kind_of_opcode x.opcode) is ∙ entry_reads r.cid request sgl1 kind
@@ -272,9 +272,9 @@ begun_reading s t at r request m w kind q e sgl1 is image k none same well = go 
         ∙ ap (λ (n : ℕ). blocks_at s.controller.image n (block_number e)) first ∙ ap (λ (n : ℕ). blocks_at s.controller.image request.slba n) count
         ∙ ap (λ (x : List ℕ). blocks_at x request.slba request.blocks) (sym image)
 
-    go : (o : Option Status) → io_fault (a.image_blocks s) e ≡ o → goes_well o ≡ true → Reading at t r request k (a.new_job q e o 0 (bytes_after_check s.controller.image e o))
-    go (Some st) f well = absurd (true≢false (sym well ∙ fault_fails (a.image_blocks s) e st f))
-    go None f well = record {
+    by_fault : (o : Option Status) → io_fault (a.image_blocks s) e ≡ o → goes_well o ≡ true → Reading at t r request k (a.new_job q e o 0 (bytes_after_check s.controller.image e o))
+    by_fault (Some st) f well = absurd (true≢false (sym well ∙ fault_fails (a.image_blocks s) e st f))
+    by_fault None f well = record {
       bytes = bytes;
       long = ap length (ap (jobs.first_bytes s.controller.image e) reads)
           ∙ blocks_length s.controller.image (first_block e) (block_number e) (at_most (a.image_blocks s) (first_block e + block_number e) (grind (arith, f)))

@@ -28,7 +28,7 @@ any_on p xs y h = list_any-append p xs (y ∷ []) ∙ ap (λ (b : Bool). b || li
 pub any_last : {X : Type 0} (p : X → Bool) (xs : List X) (y : X) → p y ≡ true → list_any p (xs ++ y ∷ []) ≡ true
 any_last p xs y h = list_any-append p xs (y ∷ []) ∙ or_right (list_any p xs) (p y || false) (ap (λ (b : Bool). b || false) h)
 
--- an element more: an earlier one passes, or it does
+-- one more element: an earlier one passes, or it does
 pub any_of_more : {X : Type 0} (p : X → Bool) (xs : List X) (y : X) (Q : Type 0) → list_any p (xs ++ y ∷ []) ≡ true → (list_any p xs ≡ true → Q) → (p y ≡ true → Q) → Q
 any_of_more p xs y Q h early late = grind (arith, sym (list_any-append p xs (y ∷ [])) ∙ h)
 
@@ -51,16 +51,16 @@ pub record HasLast {X : Type 0} (p : X → Bool) (xs : List X) : Type 0 where
 
 pub split_last : {X : Type 0} (p : X → Bool) (xs : List X) → list_any p xs ≡ true → HasLast p xs
 split_last p [] h = absurd (true≢false (sym h))
-split_last {X} p (x ∷ xs) h = go (list_any p xs) refl (p x) refl h (split_last p xs)
+split_last {X} p (x ∷ xs) h = by_presence (list_any p xs) refl (p x) refl h (split_last p xs)
   where
-    go : (c : Bool) → list_any p xs ≡ c → (b : Bool) → p x ≡ b → (b || list_any p xs) ≡ true → (list_any p xs ≡ true → HasLast p xs) → HasLast p (x ∷ xs)
-    go true e b here h ih =
+    by_presence : (c : Bool) → list_any p xs ≡ c → (b : Bool) → p x ≡ b → (b || list_any p xs) ≡ true → (list_any p xs ≡ true → HasLast p xs) → HasLast p (x ∷ xs)
+    by_presence true e b here h ih =
         let l = ih e in
         record { before = x ∷ l.before; last = l.last; later = l.later; parts = ap (λ (ys : List X). x ∷ ys) l.parts; passes = l.passes; none_later = l.none_later }
-    go false e true here h ih = record { before = []; last = x; later = xs; parts = refl; passes = here; none_later = e }
-    go false e false here h ih = absurd (true≢false (sym h ∙ e))
+    by_presence false e true here h ih = record { before = []; last = x; later = xs; parts = refl; passes = here; none_later = e }
+    by_presence false e false here h ih = absurd (true≢false (sym h ∙ e))
 
--- Lists of which one element passes at most
+-- Lists of which at most one element passes
 
 pub none_last : {X : Type 0} (p : X → Bool) (xs : List X) (y : X) → list_any p xs ≡ false → p y ≡ false → list_any p (xs ++ y ∷ []) ≡ false
 none_last p xs y h k = list_any-append p xs (y ∷ []) ∙ ap₂ (λ (a b : Bool). a || (b || false)) h k
@@ -101,12 +101,12 @@ any_with {X} p test f same (x ∷ xs) = elim (cases_Bool (test x)) [
 
 pub few_with : {X : Type 0} (p test : X → Bool) (f : X → X) → ((x : X) → p (f x) ≡ p x) → (xs : List X) → Few p xs → Few p (with_first test f xs)
 few_with p test f same [] h = tt
-few_with {X} p test f same (x ∷ xs) h = go (test x) (p x) refl h (few_with p test f same xs)
+few_with {X} p test f same (x ∷ xs) h = by_tests (test x) (p x) refl h (few_with p test f same xs)
   where
-    go : (b c : Bool) → p x ≡ c → MatchBool c (list_any p xs ≡ false) (Few p xs) → (Few p xs → Few p (with_first test f xs)) → Few p (if b then f x ∷ xs else x ∷ with_first test f xs)
-    go false true e h ih = rw e (any_with p test f same xs ∙ h)
-    go false false e h ih = rw e (ih h)
-    go true c e h ih = rw (same x ∙ e) h
+    by_tests : (b c : Bool) → p x ≡ c → MatchBool c (list_any p xs ≡ false) (Few p xs) → (Few p xs → Few p (with_first test f xs)) → Few p (if b then f x ∷ xs else x ∷ with_first test f xs)
+    by_tests false true e h ih = rw e (any_with p test f same xs ∙ h)
+    by_tests false false e h ih = rw e (ih h)
+    by_tests true c e h ih = rw (same x ∙ e) h
 
 pub find_with : {X : Type 0} (p : X → Bool) (f : X → X) → ((x : X) → p (f x) ≡ p x) → (xs : List X) (y : X) → find p xs ≡ Some y → find p (with_first p f xs) ≡ Some (f y)
 find_with p f same [] y e = absurd cc
@@ -318,7 +318,7 @@ asked_io s r f is = grind arith
 
 pub collected_stands : (k n : ℕ) (s new : State) (f : FinishedContents) → Step s (events.Collect k n) (events.Collects f) new → Stands k n new.host.records
 collected_stands k n s new f step =
-    subst (λ (part : HostPart). Stands k n part.host.records) (sym (part_left s (events.Collect k n) (events.Collects f) new step.2)) (go (record_at s.host k n) x.is)
+    subst (λ (part : HostPart). Stands k n part.host.records) (sym (part_left s (events.Collect k n) (events.Collects f) new step.2)) (by_record (record_at s.host k n) x.is)
   where
     ok : Accepts s (events.Collect k n) (events.Collects f)
     ok = accepted _ s.trusted step.1
@@ -329,9 +329,9 @@ collected_stands k n s new f step =
     io : (request : Request) × (x.command.work ≡ Io request)
     io = asked_io s x.command f (ap (option_and_then (finished_from s)) (sym x.is) ∙ ok.1)
 
-    go : (o : Option Record) → o ≡ Some x.command → Stands k n (option_map_or (λ r. a.on_records (with_record k n a.collected) (a.on_memory (without_pages (pages_of r)) s)) o s).host.records
-    go None e = absurd cc
-    go (Some r) e = (
+    by_record : (o : Option Record) → o ≡ Some x.command → Stands k n (option_map_or (λ r. a.on_records (with_record k n a.collected) (a.on_memory (without_pages (pages_of r)) s)) o s).host.records
+    by_record None e = absurd cc
+    by_record (Some r) e = (
       a.collected x.command,
       found_with k n k n s.host.records x.command x.is a.collected (λ y. refl)
           ∙ ap (λ (b : Bool). Some (if b then a.collected x.command else x.command)) (found_is (is_at k n) s.host.records x.command x.is),

@@ -125,7 +125,7 @@ there_some q cid test f same js h = there_map q cid (λ j. if test j then f j el
 -- Fetching
 
 there_fetch : (q cid k : ℕ) (s : State) → There q cid s.controller.jobs → There q cid (a.after_fetch k s).controller.jobs
-there_fetch q cid k s h = go (next_rung s k)
+there_fetch q cid k s h = by_entry (next_rung s k)
   where
     one_more : (js : List Job) (new : Job) → There q cid js → There q cid (js ++ new ∷ [])
     one_more js new all = there_append q cid js new all
@@ -150,9 +150,9 @@ there_fetch q cid k s h = go (next_rung s k)
     inner e false true = managed e
     inner e false false = one_more s.controller.jobs _ h
 
-    go : (o : Option SubEntry) → There q cid (option_map_or (λ e. if conflicts s k then a.with_posted_completion k e.cid COMMAND_ID_CONFLICT 0 (a.taken_off k s) else if k == 0 then a.managed e (a.taken_off 0 s) else a.begun k e (a.taken_off k s)) o s).controller.jobs
-    go None = h
-    go (Some e) = inner e (conflicts s k) (k == 0)
+    by_entry : (o : Option SubEntry) → There q cid (option_map_or (λ e. if conflicts s k then a.with_posted_completion k e.cid COMMAND_ID_CONFLICT 0 (a.taken_off k s) else if k == 0 then a.managed e (a.taken_off 0 s) else a.begun k e (a.taken_off k s)) o s).controller.jobs
+    by_entry None = h
+    by_entry (Some e) = inner e (conflicts s k) (k == 0)
 
 -- Walking
 
@@ -179,7 +179,7 @@ both_is : (q cid k c : ℕ) (j : Job) → ((k == q) && (c == cid)) ≡ false →
 both_is q cid k c j far is = grind (arith, is_job, eq-eqb, eqb-true)
 
 there_complete : (q cid k c : ℕ) (s : State) → ((k == q) && (c == cid)) ≡ false → There q cid s.controller.jobs → There q cid (a.after_complete k c s).controller.jobs
-there_complete q cid k c s far h = go (job_at s k c)
+there_complete q cid k c s far h = by_job (job_at s k c)
   where
     fewer : There q cid (filter (λ j. not (is_job k c j)) s.controller.jobs)
     fewer = there_filter q cid (λ j. not (is_job k c j)) (λ j is. both_is q cid k c j far is) s.controller.jobs h
@@ -188,9 +188,9 @@ there_complete q cid k c s far h = go (job_at s k c)
     deleted j true t h = h
     deleted j false t h = h
 
-    go : (o : Option Job) → There q cid (option_map_or (λ j. let st = a.final_status s j in a.with_posted_completion k c st j.dw0 (a.deletion_done j st (a.on_controller (λ d. record d { image = a.image_completed j d.image }) (a.without_job k c s)))) o s).controller.jobs
-    go None = h
-    go (Some j) =
+    by_job : (o : Option Job) → There q cid (option_map_or (λ j. let st = a.final_status s j in a.with_posted_completion k c st j.dw0 (a.deletion_done j st (a.on_controller (λ d. record d { image = a.image_completed j d.image }) (a.without_job k c s)))) o s).controller.jobs
+    by_job None = h
+    by_job (Some j) =
         let st = a.final_status s j in
         let t = a.on_controller (λ d. record d { image = a.image_completed j d.image }) (a.without_job k c s) in
         subst (λ (d : Controller). There q cid d.jobs) (sym (controller-completed k c st j.dw0 (a.deletion_done j st t))) (deleted j ((j.q == 0) && (j.entry.opcode == DELETE_IO_SQ) && is_success st) t fewer)
@@ -256,14 +256,14 @@ refused_so : (s : State) (q cid : ℕ) (why : Refusal) (touched : List ℕ) → 
 refused_so s q cid why touched is h = grind arith
 
 pub verdict_ends_walks : verdicts_end_walks
-verdict_ends_walks image made s new reply q cid job st run step at v = go reply step
+verdict_ends_walks image made s new reply q cid job st run step at v = by_reply reply step
   where
     is : refusal_of s (events.Walk q cid) ≡ Some Nothing
     is = walk_refusal s q cid job st at v
 
-    go : (reply : Reply) → Step s (events.Walk q cid) reply new → IsRefusedWalk s reply new
-    go (events.Refused why touched) step = record { refused = refused_so s q cid why touched is (permitted _ s.trusted false (trusted_end image made s run) step.1); same = step.2 }
-    go reply step = absurd (cc (sym is ∙ (permitted _ s.trusted false (trusted_end image made s run) step.1).0))
+    by_reply : (reply : Reply) → Step s (events.Walk q cid) reply new → IsRefusedWalk s reply new
+    by_reply (events.Refused why touched) step = record { refused = refused_so s q cid why touched is (permitted _ s.trusted false (trusted_end image made s run) step.1); same = step.2 }
+    by_reply reply step = absurd (cc (sym is ∙ (permitted _ s.trusted false (trusted_end image made s run) step.1).0))
 
 -- A queue deleted under two commands with verdicts, computed: it is longer than what a search goes through.
 

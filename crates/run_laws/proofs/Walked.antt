@@ -135,7 +135,7 @@ units_counted image made end q cid j run io found =
     let c = all-found (CountedIfIo made) (is_job q cid) end.controller.jobs j found all (ap (λ (n : ℕ). n == 0) jq ∙ positive q io) in
     c.count ∙ ap (λ (n : ℕ). times_walked n j.entry.cid made) jq ∙ ap (λ (n : ℕ). times_walked q n made) (eqb-true j.entry.cid cid ids.1)
 
--- A walk that ended goes on no more: its job has a verdict until it is completed.
+-- A walk that ended no longer goes on: its job has a verdict until it is completed.
 
 -- Finding a job in changed lists
 
@@ -176,7 +176,7 @@ mapped : (q cid : ℕ) (f : Job → Job) (js : List Job) → ((j : Job) → (f j
 mapped q cid f js same_q same_entry over h = (f h.0, found_mapped q cid f (λ j. rw (same_q j, same_entry j) refl) js h.0 h.1, over h.0 h.2)
 
 fetch_decided : (s : State) (n : ℕ) → Stood s → (q cid : ℕ) → DecidedIn q cid s.controller.jobs → DecidedIn q cid (a.after_fetch n s).controller.jobs
-fetch_decided s n stood q cid h = go (next_rung s n) refl
+fetch_decided s n stood q cid h = by_entry (next_rung s n) refl
   where
     one_more : (js : List Job) (new : Job) → DecidedIn q cid js → DecidedIn q cid (js ++ new ∷ [])
     one_more js new x = (x.0, found_more q cid js (new ∷ []) x.0 x.1, x.2)
@@ -209,10 +209,10 @@ fetch_decided s n stood q cid h = go (next_rung s n) refl
     inner e r false true con = managed e
     inner e r false false con = one_more s.controller.jobs _ h
 
-    go : (o : Option SubEntry) → next_rung s n ≡ o
+    by_entry : (o : Option SubEntry) → next_rung s n ≡ o
         → DecidedIn q cid (option_map_or (λ e. if conflicts s n then a.with_posted_completion n e.cid COMMAND_ID_CONFLICT 0 (a.taken_off n s) else if n == 0 then a.managed e (a.taken_off 0 s) else a.begun n e (a.taken_off n s)) o s).controller.jobs
-    go None r = h
-    go (Some e) r = inner e r (conflicts s n) (n == 0) refl
+    by_entry None r = h
+    by_entry (Some e) r = inner e r (conflicts s n) (n == 0) refl
 
 -- what a walk does to a job, another job than the one that it walks
 other_job : (q cid k c : ℕ) (f : Job → Job) (js : List Job) → ((k == q) && (c == cid)) ≡ false → ((j : Job) → (f j).q ≡ j.q) → ((j : Job) → (f j).entry ≡ j.entry)
@@ -220,7 +220,7 @@ other_job : (q cid k c : ℕ) (f : Job → Job) (js : List Job) → ((k == q) &&
 other_job q cid k c f js far same_q same_entry h = grind (arith, is_job, found_mapped, found_is, eq-eqb, eqb-true)
 
 walk_decided : (s : State) (k c : ℕ) (q cid : ℕ) → ((k == q) && (c == cid)) ≡ false → DecidedIn q cid s.controller.jobs → DecidedIn q cid (a.after_walk k c s).controller.jobs
-walk_decided s k c q cid far h = go (job_at s k c)
+walk_decided s k c q cid far h = by_job (job_at s k c)
   where
     last : (j : Job) (js : List Job) → DecidedIn q cid js → DecidedIn q cid (map (λ (x : Job). if (x.q == k) && (x.entry.cid == c) then record x { units_done = x.units_done + 1; verdict = verdict_of (a.next_answer s j) } else x) js)
     last j js x = other_job q cid k c (λ x. record x { units_done = x.units_done + 1; verdict = verdict_of (a.next_answer s j) }) js far (λ x. refl) (λ x. refl) x
@@ -240,9 +240,9 @@ walk_decided s k c q cid far h = go (job_at s k c)
     inner j None = h
     inner j (Some act) = moved j (direction_of_entry j.entry) act
 
-    go : (o : Option Job) → DecidedIn q cid (option_map_or (λ j. option_map_or (λ act. a.on_job k c (λ x. record x { units_done = x.units_done + 1; verdict = verdict_of (a.next_answer s j) }) (a.moved (direction_of_entry j.entry) act k c s)) (a.next_unit s j) s) o s).controller.jobs
-    go None = h
-    go (Some j) = inner j (a.next_unit s j)
+    by_job : (o : Option Job) → DecidedIn q cid (option_map_or (λ j. option_map_or (λ act. a.on_job k c (λ x. record x { units_done = x.units_done + 1; verdict = verdict_of (a.next_answer s j) }) (a.moved (direction_of_entry j.entry) act k c s)) (a.next_unit s j) s) o s).controller.jobs
+    by_job None = h
+    by_job (Some j) = inner j (a.next_unit s j)
 
 complete_decided : (s : State) (k c : ℕ) (q cid : ℕ) → ((k == q) && (c == cid)) ≡ false → DecidedIn q cid s.controller.jobs → DecidedIn q cid (a.after_complete k c s).controller.jobs
 complete_decided s k c q cid far h =
@@ -313,11 +313,11 @@ walk_leaves s q cid j act at unit =
     ]
 
 walk_left : (s : State) (q cid : ℕ) (outcome : WalkState) (touched : List ℕ) → Going s (events.Walk q cid) (events.Walked outcome touched) → WalkedTo q cid (a.after_walk q cid s) (verdict_of outcome)
-walk_left s q cid outcome touched g = go (a.next_unit s g.ok.1.0) refl g.ok.1.2
+walk_left s q cid outcome touched g = by_act (a.next_unit s g.ok.1.0) refl g.ok.1.2
   where
-    go : (o : Option Act) → a.next_unit s g.ok.1.0 ≡ o → unit_answered o (a.next_answer s g.ok.1.0) outcome touched → WalkedTo q cid (a.after_walk q cid s) (verdict_of outcome)
-    go None u h = absurd h
-    go (Some act) u h = subst (λ (x : WalkState). WalkedTo q cid (a.after_walk q cid s) (verdict_of x)) h.0 (walk_leaves s q cid g.ok.1.0 act g.ok.1.1 u)
+    by_act : (o : Option Act) → a.next_unit s g.ok.1.0 ≡ o → unit_answered o (a.next_answer s g.ok.1.0) outcome touched → WalkedTo q cid (a.after_walk q cid s) (verdict_of outcome)
+    by_act None u h = absurd h
+    by_act (Some act) u h = subst (λ (x : WalkState). WalkedTo q cid (a.after_walk q cid s) (verdict_of x)) h.0 (walk_leaves s q cid g.ok.1.0 act g.ok.1.1 u)
 
 undecided_is : (outcome : WalkState) → is_none (verdict_of outcome) ≡ is_more outcome
 undecided_is outcome = grind arith
@@ -364,7 +364,7 @@ not_again s new e reply q cid step t stood is h =
     no_walk s q cid x.0 x.1 (record { proper = tt; ok = permitted _ s.trusted false t made.1; trusted = t; stood = stood }) h
 
 pub last_ends : only_the_last_walk_ends
-last_ends image before walked between again later end q cid run ends walks = go (list_any (ends_job q cid) between) refl
+last_ends image before walked between again later end q cid run ends walks = by_ending (list_any (ends_job q cid) between) refl
   where
     s0 : State
     s0 = opening run.pages run.queues run.entries run.segment image
@@ -391,9 +391,9 @@ last_ends image before walked between again later end q cid run ends walks = go 
     stood_behind : Stood at_walked.2.1
     stood_behind = stood_step at_walked.0 walked.event walked.reply at_walked.2.1 at_walked.2.2 unforged_walked.trusted unforged_behind.trusted stood_walked
 
-    go : (b : Bool) → list_any (ends_job q cid) between ≡ b → b ≡ true
-    go true e = refl
-    go false e =
+    by_ending : (b : Bool) → list_any (ends_job q cid) between ≡ b → b ≡ true
+    by_ending true e = refl
+    by_ending false e =
         let kept = along_steps (Decided q cid) (ends_job q cid) (λ s e reply g far h. let both = or_parts (completes_by q cid e reply) (resets e) far in decided_step q cid s e reply g both.0 both.1 h) between at_walked.2.1 at_again.0 at_walked.2.3 unforged_behind stood_behind e
         (ended at_walked.0 at_walked.2.1 walked.event walked.reply q cid at_walked.2.2 unforged_walked.trusted stood_walked ends) in
         absurd (not_again at_again.0 at_again.2.1 again.event again.reply q cid at_again.2.2 (unforged_end (before ++ walked ∷ between) s0 at_again.0 at_again.1 unforged) kept.0 walks kept.1)

@@ -28,7 +28,7 @@ draft = record { q = 1; cid = 0; request = write_at 0 at_start; data_pages = (4,
 abbrev other : DraftContents
 other = record { q = 1; cid = 1; request = write_at 1 behind; data_pages = (5, zero_page) ∷ []; chain_pages = []; segment = 256; entry = None }
 
--- the worlds behind the reservations and the submission, and the drafts behind each fill and the build
+-- the worlds after the reservations and the submission, and the drafts after each fill and the build
 abbrev one_reserved : State
 one_reserved = a.after (opening_of config image) (events.Reserve 1 (write_at 0 at_start)) (events.Reserved draft)
 

@@ -62,7 +62,7 @@ queue_of (events.Walk q cid) = q
 queue_of (events.Complete q cid) = q
 queue_of e = 0
 
--- Once something was forged the causes don't decide on the controller: each of its events is accepted, of a queue that the host has.
+-- Once something was forged the causes don't decide for the controller: each of its events is accepted, of a queue that the host has.
 abbrev pub forged_worlds_accept_the_controller : Type 0
 forged_worlds_accept_the_controller =
     (s : State) (e : Event) → IsInOrder s → IsTrue (not s.trusted) → IsTrue (IsController e) → IsTrue (is_some (host_queue s (queue_of e))) → IsAccepted s e

@@ -37,7 +37,7 @@ abbrev pub the_image_is_the_runs : Type 0
 the_image_is_the_runs =
     (image : List ℕ) (made : List Made) (end : State) → TrustedRun image made end → end.controller.image ≡ image_after image made
 
--- What a compare ends with that was neither stopped nor beyond the image: in namespace 1, the only one, it succeeds exactly where the blocks
+-- What a compare that was neither stopped nor beyond the image ends with: in namespace 1, the only one, it succeeds exactly where the blocks
 -- are then its draft's bytes
 abbrev pub blocks_of_request : Request → List ℕ → List ℕ
 blocks_of_request r image = blocks_at image r.slba r.blocks
@@ -55,8 +55,8 @@ compares_tell_equality =
     → IsTrue (not (same_status st ABORT_REQUESTED || same_status st ABORTED_SQ_DELETION || same_status st LBA_OUT_OF_RANGE))
     → st ≡ compared d m.before.controller.image
 
--- A read that was stopped: the blocks' bytes for so many counted bytes, and the draft's own for the rest. Its draft is the latest
--- before it was collected: a command that was never fetched may stand behind one of its identifier that was (`worked_never_fetched`).
+-- A read that was stopped: the blocks' bytes for this many counted bytes, and the draft's own for the rest. Its draft is the latest
+-- before it was collected: a command that was never fetched may come after one of its identifier that was (`worked_never_fetched`).
 abbrev pub partly : ℕ → List Target → (blocks own : List ℕ) → List ℕ
 partly zero ts blocks own = own
 partly (suc k) [] blocks own = own

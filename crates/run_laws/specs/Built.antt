@@ -6,7 +6,7 @@ use Rattle.page_memory.specs.Pages.{Pages, byte_at}
 use Rattle.io_commands.specs.{Drafts.{DraftContents, draft_first, draft_parts}, Requests.has_list, Values.numbers_of}
 use Rattle.machine_model.specs.{Memory.with_pages, Proper.IsProperDraft, Step.times}
 
--- page numbers of a pool of so many pages
+-- page numbers of a pool of this many pages
 abbrev pub LieIn : ℕ → List ℕ → Type 0
 LieIn count pages = All (λ p. p < count) pages
 

@@ -37,7 +37,7 @@ fills_of q cid (d ∷ done) = fill_by q cid d.what d.answer ++ fills_of q cid do
 abbrev pub data_bytes : Request → ℕ
 data_bytes request = sum_by data_length request.pieces
 
--- so many bytes, and fills written over them, one after the other: each from the first byte on, with zeros behind it
+-- this many bytes, and fills written over them, one after the other: each starting at the first byte, with zeros after it
 abbrev pub written_over : ℕ → List ℕ → List (List ℕ) → List ℕ
 written_over count bytes [] = bytes
 written_over count bytes (fill ∷ fills) = written_over count (fill ++ replicate (count - length fill) 0) fills

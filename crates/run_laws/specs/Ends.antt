@@ -51,7 +51,7 @@ renews_by q e reply = false
 abbrev pub renews : ℕ → Made → Bool
 renews q m = renews_by q m.event m.reply
 
--- the steps since then, and all of them where nothing of that was
+-- the steps since then, and all of them where there was none of that
 abbrev pub since_renewed : ℕ → List Made → List Made
 since_renewed q [] = []
 since_renewed q (m ∷ made) = if list_any (renews q) made then since_renewed q made else if renews q m then made else m ∷ made
@@ -90,7 +90,7 @@ pub record WasLostByReset (earlier : List Made) (q cid : ℕ) (st : Status) : Ty
   pub submitted : IsTrue (record_is (λ r. is_submitted r.phase) reset.before q cid)
   pub since : IsTrue (not (list_any (submits q cid) between))
 
--- What a reap answers for a command of an I/O queue, its completion gave
+-- A reap answers for a command of an I/O queue what its completion gave
 abbrev pub ends_come_from_completions : Type 0
 ends_come_from_completions =
     (image : List ℕ) (earlier later : List Made) (m : Made) (end : State) (q cid : ℕ) (st : Status) → TrustedRun image (earlier ++ m ∷ later) end
@@ -103,13 +103,13 @@ retired_queues_were_deleted =
     (image : List ℕ) (earlier later : List Made) (m : Made) (end : State) (q : ℕ) → TrustedRun image (earlier ++ m ∷ later) end
     → IsTrue (retires q m) → IsTrue (list_any (deletes q) (since_renewed q earlier))
 
--- What a collect answers, the command's completion gave, or the command was lost, with its queue or by a reset
+-- The command's completion gave what a collect answers, or the command was lost, with its queue or by a reset
 abbrev pub collects_tell_how_commands_ended : Type 0
 collects_tell_how_commands_ended =
     (image : List ℕ) (earlier later : List Made) (m : Made) (end : State) (q cid : ℕ) (f : FinishedContents) → TrustedRun image (earlier ++ m ∷ later) end
     → m.event ≡ events.Collect q cid → m.reply ≡ events.Collects f → WasCompleted earlier q cid f.status ⊎ WasLost earlier q cid f.status ⊎ WasLostByReset earlier q cid f.status
 
--- and it tells no hint: the controller gives none
+-- and it reports no hint: the controller gives none
 abbrev pub collects_tell_no_hints : Type 0
 collects_tell_no_hints =
     (image : List ℕ) (earlier later : List Made) (m : Made) (end : State) (q cid : ℕ) (f : FinishedContents) → TrustedRun image (earlier ++ m ∷ later) end

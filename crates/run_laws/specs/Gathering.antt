@@ -12,7 +12,7 @@ use Rattle.step_core.specs.declared.step.Reply.TheVariants as reply
 use Rattle.step_core.specs.declared.step.Step.TheVariants as step
 
 -- a command that a bench submitted and collected: the two steps, the draft that the bench kept as it submitted it, and what the machine
--- made before, between and behind them
+-- made before, between and after them
 pub record IsOfSteps (done : List Done) (q cid : ℕ) (c : CollectedCommand) : Type 0 where
   pub earlier : List Done
   pub submission : Done
@@ -57,13 +57,13 @@ gathered_bytes_are_of_collected_commands =
     (image : List ℕ) (done : List Done) (end new : Table) (q cid : ℕ) (bytes : List ℕ) → TrustedBench image done end
     → Does end (step.Gather q cid) (reply.Gathered bytes) new → GathersCommand image done end q cid bytes
 
--- its blocks' bytes but for the discarded ones, from the image of the run at its fetch
+-- its blocks' bytes except the discarded ones, from the image of the run at its fetch
 pub record ReadsBlocks (c : CollectedCommand) (bytes : List ℕ) : Type 0 where
   pub fetch : FetchedCommand
   pub is_of : fetch.command ≡ c
   pub reads : bytes ≡ read_of c.finished.request (numbers_of c.finished.data_pages) (image_at_fetch fetch)
 
--- so many of their first bytes, and its draft's own bytes behind them
+-- a prefix of them, and its draft's own bytes after it
 pub record ReadsPartly (c : CollectedCommand) (bytes : List ℕ) : Type 0 where
   pub fetch : FetchedCommand
   pub is_of : fetch.command ≡ c

@@ -42,7 +42,7 @@ none_outside_the_pool = (s : State) (p : ℕ) → IsSound s → length s.memory 
 
 -- Addresses in lists
 
--- each byte at the addresses of a descriptor is on a page with the right that it wants: data with this one, and further segments are read
+-- each byte at the addresses of a descriptor is on a page with the right that it needs: data with this one, and further segments are read
 abbrev pub Reaches : Host → Right → Descriptor → Type 0
 Reaches h may (DataBlock addr len) = (k : ℕ) → k < len → right_at h ((addr + k) / 4096) ≡ may
 Reaches h may (BitBucket len) = Unit {0}
@@ -53,8 +53,8 @@ Reaches h may (LastSegment addr len) = (k : ℕ) → k < len → right_at h ((ad
 abbrev pub descriptors_of : ℕ → List ℕ → List Part → List Descriptor
 descriptors_of n pages parts = first_of n pages parts ∷ flat_map (λ segment. segment) (segments_on n pages parts)
 
--- So each address that the entry and the list of a submitted command name, whose request passed its check, lies with all its bytes on a page with the right that
--- its direction wants.
+-- So each address that the entry and the list of a submitted command name, whose request
+-- passed its check, lies with all its bytes on a page with the right that its direction needs.
 abbrev pub lists_name_what_may_be_reached : Type 0
 lists_name_what_may_be_reached =
     (s : State) (q cid n : ℕ) (r : Record) (request : Request) → IsSound s → record_at s.host q cid ≡ Some r → r.work ≡ Io request → is_submitted r.phase ≡ true

@@ -44,11 +44,11 @@ deletes q m = option_map_or (λ e. (e.opcode == DELETE_IO_SQ) && (named_queue e 
 abbrev pub job_test : (Job → Bool) → Made → ℕ → ℕ → Bool
 job_test test m q cid = option_map_or test (job_at m.before q cid) false
 
--- the controller has Reads, Writes and Compares alone
+-- the controller has only Reads, Writes and Compares
 abbrev pub is_unknown : Made → ℕ → ℕ → Bool
 is_unknown m q cid = job_test (λ j. is_none (kind_of_opcode j.entry.opcode)) m q cid
 
--- and namespace 1 alone
+-- and only namespace 1
 abbrev pub misses_namespace : Made → ℕ → ℕ → Bool
 misses_namespace m q cid = job_test (λ j. not (j.entry.nsid == 1)) m q cid
 

@@ -121,7 +121,7 @@ abbrev pub commands_are_fetched_once : Type 0
 commands_are_fetched_once =
     (f : FetchedCommand) → IsTrue (not (list_any (fetches f.command.finished.q f.command.finished.cid) (f.before_fetch ++ f.after_fetch)))
 
--- a Read gathers so many of its blocks' bytes, from the image at its fetch, and its draft's own behind them
+-- a Read gathers a prefix of its blocks' bytes, from the image at its fetch, and its draft's own after it
 abbrev pub fetched_reads_give_a_prefix : Type 0
 fetched_reads_give_a_prefix =
     (f : FetchedCommand) → IsTrue (is_read f.command.finished)

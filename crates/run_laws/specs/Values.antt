@@ -43,7 +43,7 @@ resets_by what = false
 abbrev pub is_reset : Done → Bool
 is_reset d = resets_by d.what
 
--- the steps behind the last reset, and all of them where there is none
+-- the steps after the last reset, and all of them where there is none
 abbrev pub since_reset : List Done → List Done
 since_reset [] = []
 since_reset (d ∷ done) = if list_any is_reset done then since_reset done else if is_reset d then done else d ∷ done
@@ -67,7 +67,7 @@ benches_of_trusted_worlds_are_unforged =
 -- The machine's steps
 
 -- the machine's steps that a bench's steps are, in their order, one for each that is an event: with the value that the bench keeps under the
--- step's name, and the reply of which its answer tells
+-- step's name, and the reply that its answer reports
 abbrev pub made_by : List Done → List Made
 made_by [] = []
 made_by (d ∷ done) = made_from (event_at d.before d.what) d.before d.what d.answer d.after d.does (made_by done)

@@ -13,7 +13,7 @@ jobs_stay =
     → TrustedRun image made old → Step old e reply new → IsTrue (not (forges_by e reply)) → IsTrue (not (resets e))
     → job_at old q cid ≡ Some job → status_by old e reply q cid ≡ None → IsTrue (is_some (job_at new q cid))
 
--- One that has a verdict keeps it as long: no Abort, no deletion and no walk gives it another, or moves its data on
+-- One that has a verdict keeps it for as long: no Abort, no deletion and no walk gives it another, or moves its data on
 pub record KeepsVerdict (before after : Job) : Type 0 where
   pub verdict : after.verdict ≡ before.verdict
   pub units_done : after.units_done ≡ before.units_done

@@ -27,7 +27,7 @@ units_done_count_the_walks =
     (image : List ℕ) (made : List Made) (end : State) (q cid : ℕ) (j : Job) → TrustedRun image made end → IsTrue (nat_lt 0 q)
     → job_at end q cid ≡ Some j → j.units_done ≡ times_walked q cid made
 
--- the job behind a walk step has no verdict exactly where the step answers that the walk goes on
+-- the job after a walk step has no verdict exactly where the step answers that the walk goes on
 pub record HasJobSo (s : State) (q cid : ℕ) (outcome : WalkState) : Type 0 where
   pub job : Job
   pub found : job_at s q cid ≡ Some job
@@ -46,7 +46,7 @@ completes_by q cid e reply = false
 abbrev pub completes : ℕ → ℕ → Made → Bool
 completes q cid m = completes_by q cid m.event m.reply
 
--- whether this command's job is there no more behind a step: it completes the command, or resets the controller
+-- whether this command's job is no longer there after a step: it completes the command, or resets the controller
 abbrev pub ends_job : ℕ → ℕ → Made → Bool
 ends_job q cid m = completes q cid m || is_reset m
 

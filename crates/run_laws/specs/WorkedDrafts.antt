@@ -8,7 +8,7 @@ use Rattle.run_laws.specs.{Drafts.{ReservedCommand, fills_of, bytes_left}, Value
 use Rattle.step_core.specs.declared.step.Reply.TheVariants as reply
 use Rattle.step_core.specs.declared.step.Step.TheVariants as step
 
--- 512 bytes at the start of a page, and behind its first 100 bytes
+-- 512 bytes at the start of a page, and after its first 100 bytes
 abbrev pub at_start : List Piece
 at_start = Data 0 512 ∷ []
 
@@ -27,7 +27,7 @@ abbrev pub filled_twice_said : List Said
 filled_twice_said =
     reserved 1 0 (4 ∷ []) [] ∷ reserved 1 1 (5 ∷ []) [] ∷ ok ∷ ok ∷ ok ∷ ok ∷ not_filled WrongLength ∷ ok ∷ ok ∷ ok ∷ []
 
--- what the drafts gather that the machine's submissions got, the latest first
+-- what the drafts that the machine's submissions got gather, the latest first
 abbrev pub bytes_submitted : List (List ℕ)
 bytes_submitted = map (λ d. gathered d.request.pieces d.data_pages) (drafts_of (made_by ordinary filled_twice))
 

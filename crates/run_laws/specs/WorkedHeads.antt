@@ -1,5 +1,5 @@
--- A worked run: a completion is posted while a younger entry of its queue stands in the ring and is not rung. Its SQ head pointer
--- is where the controller fetches next, behind the entries that were fetched, and not the tail.
+-- A worked run: a completion is posted while a younger entry of its queue is in the ring and not announced. Its SQ head pointer
+-- is where the controller fetches next, after the entries that were fetched, and not the tail.
 use Rattle.std.specs.Prelude.{ℕ, true, List, [], ◌∷◌, ◌++◌}
 use Rattle.controller_walk.specs.declared.walk.WalkState.TheVariants.{More, End}
 use Rattle.io_commands.specs.declared.request.Kind.TheVariants.{Read}
@@ -8,7 +8,7 @@ use Rattle.machine_model.specs.Script.{Line, Said, build, submit, ring, fetch, w
 use Rattle.machine_model.specs.{WorkedQueues.block, declared.words.Reaped.TheVariants.Done}
 use Rattle.queue_pair.specs.Rings.{HostRing}
 
--- the first Read is fetched and walked; the second is submitted, and its bell is not rung; then the first is completed
+-- the first Read is fetched and walked; the second is submitted, and its doorbell is not rung; then the first is completed
 abbrev pub posted_behind : List Line
 posted_behind =
     block Read 0 ∷ build 1 0 ∷ submit 1 0 ∷ ring 1 ∷ fetch 1 ∷ walk 1 0 ∷ walk 1 0
@@ -19,11 +19,11 @@ posted_behind_said =
     reserved 1 0 (4 ∷ []) [] ∷ ok ∷ ok ∷ ok ∷ fetched 0 (2 ∷ []) ∷ walked More [] ∷ walked End (4 ∷ [])
     ∷ reserved 1 1 (5 ∷ []) [] ∷ ok ∷ ok ∷ completed (3 ∷ []) ∷ []
 
--- the second entry stands in slot 1: a Read by a list, of identifier 1
+-- the second entry is in slot 1: a Read by a list, of identifier 1
 abbrev pub second_word : List ℕ
 second_word = 2 ∷ 64 ∷ 1 ∷ 0 ∷ []
 
--- and then reaped: the host knows of one entry that was fetched, and its tail is behind both
+-- and then reaped: the host knows of one entry that was fetched, and its tail is past both
 abbrev pub reaped_behind : List Line
 reaped_behind = posted_behind ++ reap 1 ∷ []
 

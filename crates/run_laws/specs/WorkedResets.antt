@@ -1,5 +1,5 @@
--- Worked runs of a reset: under two Reads that are submitted, of which one is a job, and one was completed with success and not reaped; and
--- behind the deletion of a queue.
+-- Worked runs of a reset: under two Reads that are submitted, one of which is a job,
+-- and one was completed with success and not reaped; and after the deletion of a queue.
 use Rattle.std.specs.Prelude.{ℕ, List, [], ◌∷◌, ◌++◌, length, filter}
 use Rattle.controller_walk.specs.declared.walk.WalkState.TheVariants.{More, End}
 use Rattle.io_commands.specs.declared.request.Kind.TheVariants.{Read}

@@ -19,7 +19,7 @@ pub fn law_of_walks()
 {}
 
 /// Where nothing was forged, a command whose draft is a Compare of namespace 1, and that ended neither by an Abort or a deletion
-/// nor for blocks beyond the image, succeeds exactly where its blocks are then its draft's bytes, and else fails as a Compare. No
+/// nor for blocks beyond the image, succeeds exactly where its blocks are then its draft's bytes, and otherwise fails as a Compare. No
 /// other command fails so, and one of another namespace ends for that.
 pub fn law_of_drafted_compares()
     ensures compares { compares_by_their_drafts }
@@ -33,13 +33,13 @@ pub fn law_of_ready_states()
     ensures steps { steps_keep_ready }
 {}
 
-/// In a ready state an event that no cause refuses is accepted: want of memory alone can keep it back.
+/// In a ready state an event that no cause refuses is accepted: only lack of memory can prevent it.
 ///
 /// So a free identifier and free pages exist wherever no cause says otherwise. That holds of the host's events whatever was forged,
 /// and of the controller's where nothing was. A reset is never refused, whatever was forged: it has one answer, and leaves one state.
 ///
-/// After a forged entry the causes don't decide on the controller: each of its events may be accepted, of a queue that the host has,
-/// and of no other.
+/// After a forged entry the causes don't decide for the controller: each of
+/// its events may be accepted, of a queue that the host has, and of no other.
 pub fn law_of_acceptance()
     ensures events { every_event_is_accepted_or_has_a_cause }
     ensures resets { every_reset_is_accepted }

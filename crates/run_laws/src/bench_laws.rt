@@ -9,10 +9,10 @@ ghost use Rattle.run_laws.specs.Values.{benches_have_tables, benches_make_runs_o
 /// the values that the bench keeps.
 ///
 /// Each step that is an event makes one step of the run: a submission with the draft that the bench keeps under that name, filled and built
-/// as its steps said, and a collection with the finished command that the bench keeps from there on.
+/// as its steps said, and a collection with the finished command that the bench keeps from then on.
 ///
-/// That nothing was forged is said of the steps: none of them is an accepted forgery. Resets may be among them. Of a bench whose world is
-/// trusted it is so of the steps behind the last reset, and of all of them where there is none.
+/// That nothing was forged is said of the steps: none of them is an accepted forgery. Resets may be among them. For a bench whose world is trusted it
+/// is so of the steps after the last reset, and of all of them where there is none.
 pub fn law_of_values()
     ensures tables { benches_have_tables }
     ensures runs { benches_make_runs_of_their_values }
@@ -22,10 +22,10 @@ pub fn law_of_values()
 /// A bench submits the draft that it reserved, as its fills left it, whatever was forged.
 ///
 /// The draft that the machine's submission gets has the request and the pages of the draft that the machine gave as it reserved the
-/// command. Its data's bytes are zeros, and each fill that was accepted between written over them, in order, with zeros behind it.
+/// command. Its data's bytes are zeros, and each fill that was accepted between written over them, in order, with zeros after it.
 /// Nothing else of its data pages differs from those of the reservation.
 ///
-/// And so it is of each submission: a draft that a bench keeps was reserved in a step since it opened, and neither submitted nor
+/// And so it is for each submission: a draft that a bench keeps was reserved in a step since it opened, and neither submitted nor
 /// cancelled since. A reset takes none.
 pub fn law_of_submitted_drafts()
     ensures reservation { submitted_drafts_were_reserved }
@@ -35,9 +35,9 @@ pub fn law_of_submitted_drafts()
 /// Where nothing was forged, the bytes that a bench gathers are those of the command of that name that it collected last, and keeps
 /// since.
 ///
-/// A Read that ended with success gathers its blocks' bytes but for the discarded ones, from the image of the run at its fetch. One
-/// that was fetched gathers so many of their first bytes, and its draft's own bytes behind them; one that was not, its draft's own bytes
-/// alone. One that was lost, with its queue or by a reset, may be either of these two.
+/// A Read that ended with success gathers its blocks' bytes except the discarded ones, from the image of the run at its fetch. One that was fetched
+/// gathers a prefix of them, and its draft's own bytes after it; one that was not, its draft's own bytes alone. One that was lost, with its queue or
+/// by a reset, may be either of these two.
 pub fn law_of_gathering()
     ensures commands { gathered_bytes_are_of_collected_commands }
     ensures reads { gathered_reads_have_their_blocks }
@@ -50,9 +50,9 @@ pub fn law_of_writes()
     ensures { benches_write_their_blocks }
 {}
 
-/// Where nothing was forged, a Compare of namespace 1 that a step completes, neither by an Abort or a deletion nor for blocks beyond the
-/// image, succeeds exactly where its blocks are then the bytes of the draft that the bench kept as it submitted it, and else fails as a
-/// Compare. One of another namespace ends for that. The image is then the opening's, changed by the Writes before.
+/// Where nothing was forged, a Compare of namespace 1 that a step completes, neither by an Abort or a deletion nor for blocks beyond the image,
+/// succeeds exactly where its blocks are then the bytes of the draft that the bench kept as it submitted it, and otherwise fails as a Compare. One of
+/// another namespace ends for that. The image is then the opening's, changed by the Writes before.
 pub fn law_of_compares()
     ensures { benches_compare_their_blocks }
 {}

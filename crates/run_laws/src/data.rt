@@ -30,10 +30,10 @@ pub fn law_of_unfetched_commands()
     ensures zeros { unfetched_commands_of_zeros_gather_zeros }
 {}
 
-/// Where nothing was forged, a command is fetched once at most. A Read that was fetched gathers so many of its blocks' first
-/// bytes, from the image of the run at its fetch, and its draft's own bytes behind them.
+/// Where nothing was forged, a command is fetched once at most. A Read that was fetched gathers a prefix of its blocks' bytes, from the image of the
+/// run at its fetch, and its draft's own bytes after it.
 ///
-/// One that ended with success gathers all its blocks' bytes but for the discarded ones.
+/// One that ended with success gathers all its blocks' bytes except the discarded ones.
 pub fn law_of_fetched_commands()
     ensures fetch { fetched_commands_have_their_fetch }
     ensures once { commands_are_fetched_once }
@@ -43,8 +43,8 @@ pub fn law_of_fetched_commands()
 
 /// Where nothing was forged, a submitted command has the request and the pages of the latest draft of its queue and identifier.
 ///
-/// That draft was built; where the command has a list its chain spells the draft's list, and each entry of the command that
-/// stands at the controller names that list. Where it has none, such an entry has zeros there.
+/// That draft was built; where the command has a list its chain spells the draft's list, and each entry of the command that is at the controller
+/// names that list. Where it has none, such an entry has zeros there.
 pub fn law_of_drafted_chains()
     ensures { chains_are_the_drafts }
 {}

@@ -20,8 +20,8 @@ pub fn law_of_completions()
     ensures { ends_come_from_completions }
 {}
 
-/// Where nothing was forged, a queue that is retired was deleted: a Delete SQ of it was fetched before. So no command is lost but by a reset,
-/// or with a queue whose deletion was asked for.
+/// Where nothing was forged, a queue that is retired was deleted: a Delete SQ of it was fetched before. So no command is lost except by a reset, or
+/// with a queue whose deletion was asked for.
 ///
 /// A queue that was made again has a deletion of its own: it was fetched since the queue was last retired, since it was last asked for anew,
 /// and since the controller was last reset.
@@ -54,9 +54,9 @@ pub fn law_of_single_ends()
 {}
 
 /// Where nothing was forged, only the first verdict of a command counts: its job stays until it completes or the controller is reset, and as
-/// soon as it has a verdict it keeps it, its bytes and its count of walk steps, and is walked no more.
+/// soon as it has a verdict it keeps it, its bytes and its count of walk steps, and is no longer walked.
 ///
-/// So where the command completes, it does with that verdict; only a Compare whose data came without a fault may find a difference besides.
+/// So where the command completes, it does so with that verdict; only a Compare whose data came without a fault may find a difference besides.
 pub fn law_of_verdicts()
     ensures jobs { jobs_stay }
     ensures stay { verdicts_stay }

@@ -8,7 +8,7 @@ ghost use Rattle.run_laws.specs.Blocks.{the_image_is_the_runs, compares_tell_equ
 
 use io_commands::laws::laws_of_built_drafts;
 
-/// An opening has a history, and each step that leaves a trusted state came from one or is a reset, and makes a history longer. So what
+/// An opening has a history, and each step that leads to a trusted state came from one or is a reset, and makes a history longer. So what
 /// holds of every trusted run holds of each state that steps lead to without a forgery.
 ///
 /// The events and replies of a run from an opening in which no forgery was accepted are those of such a history.
@@ -28,7 +28,7 @@ pub fn law_of_built_drafts()
 /// Where nothing was forged, each status of an I/O command has its cause.
 ///
 /// It is success; or an Abort of the command, or the deletion of its queue, fetched since the command was; or an opcode that the
-/// controller does not have, as that of a Write Zeroes, a Verify, a Flush and a Deallocate; or another namespace than 1; or blocks
+/// controller does not have, such as that of a Write Zeroes, a Verify, a Flush and a Deallocate; or another namespace than 1; or blocks
 /// beyond the image; or a Compare that found a difference.
 pub fn law_of_statuses()
     ensures { every_status_has_its_cause }
@@ -37,21 +37,21 @@ pub fn law_of_statuses()
 /// Where nothing was forged, the image is the opening's, changed by each Write whose completion gave success, in the order of those
 /// steps.
 ///
-/// Such a Write puts just its draft's bytes over just its blocks. Nothing else changes the image.
+/// Such a Write puts exactly its draft's bytes over exactly its blocks. Nothing else changes the image.
 pub fn law_of_images()
     ensures { the_image_is_the_runs }
 {}
 
 /// Where nothing was forged, a Compare of namespace 1 that ended neither by an Abort or a deletion nor for blocks beyond the image
-/// succeeds exactly where its blocks are then its draft's bytes, and else fails as a Compare. One of another namespace ends for that.
+/// succeeds exactly where its blocks are then its draft's bytes, and otherwise fails as a Compare. One of another namespace ends for that.
 pub fn law_of_compares()
     ensures { compares_tell_equality }
 {}
 
-/// Where nothing was forged, a Read that ended with success gathers its blocks' bytes but for the discarded ones, from the image
-/// of the run at its fetch.
+/// Where nothing was forged, a Read that ended with success gathers its blocks'
+/// bytes except the discarded ones, from the image of the run at its fetch.
 ///
-/// One that ended otherwise gathers so many of their first bytes, and its draft's own bytes behind them.
+/// One that ended otherwise gathers a prefix of them, and its draft's own bytes after it.
 pub fn law_of_reads()
     ensures blocks { reads_give_their_blocks }
     ensures stopped { stopped_reads_give_a_prefix }

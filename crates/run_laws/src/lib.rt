@@ -1,13 +1,13 @@
 //! Laws of the machine's runs, and of the values that a bench keeps, above all code that they speak of.
 //!
-//! There is no code here: each public function has an empty body, and its clauses are what is proved. In [`ends`] stands how commands
-//! end, in [`data`] what a command's pages and list hold between its submission and its collection, in [`answers`] what steps answer and
-//! which event is accepted, in [`reach`] which pages a device may reach, in [`laws`] what runs leave: statuses with their causes, the image, what Compares and Reads find, histories. [`worked`],
-//! [`worked_heads`], [`worked_renewals`] and [`worked_resets`] have whole runs, computed from the definitions.
+//! There is no code here: each public function has an empty body, and its clauses are what is proved. [`ends`] says how commands end, [`data`] what a
+//! command's pages and list hold between its submission and its collection, [`answers`] what steps answer and which event is accepted, [`reach`]
+//! which pages a device may reach, [`laws`] what runs leave: statuses with their causes, the image, what Compares and Reads find, histories.
+//! [`worked`], [`worked_bench`], [`worked_heads`], [`worked_renewals`] and [`worked_resets`] have whole runs, computed from the definitions.
 //!
-//! `step_core` proves that what a bench does is a trusted run of the machine, by queue and identifier; in [`bench_laws`] that run has the drafts that the
-//! bench kept as it submitted them, and the finished commands that it keeps. So the laws of what a Read gathers, a Write changes and a Compare answers
-//! speak of a bench's bytes:
+//! `step_core` proves that what a bench does is a trusted run of the machine, by queue and identifier; in [`bench_laws`] that run has the drafts that
+//! the bench kept as it submitted them, and the finished commands that it keeps. So the laws of what a Read gathers, a Write changes and a Compare
+//! answers apply to a bench's bytes:
 //!
 //! - `specs/Values.antt` has a bench's steps with the tables between them, and the machine's steps that they are.
 //! - `specs/Gathering.antt` says of which command the gathered bytes are, and what a Read gathers.

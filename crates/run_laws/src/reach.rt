@@ -6,9 +6,8 @@ ghost use Rattle.run_laws.specs.Reach.{chain_pages_have_their_right, completion_
 /// In a sound state, whatever was forged, each page of the pool has the right of its owner: the pages of an outstanding command that of
 /// its phase, its kind and what they hold, those of rings theirs, and all others none.
 ///
-/// So each address in the entry and in the list that the host lays for a submitted command, whose request passed its check, lies with all
-/// its bytes on a page with the right that it wants: that of the command's direction where it is data, and to be read where it is a further
-/// segment.
+/// So each address in the entry and in the list that the host lays for a submitted command, whose request passed its check, lies with all its bytes
+/// on a page with the right that it needs: that of the command's direction where it is data, and to be read where it is a further segment.
 ///
 /// And a step, whatever a device wrote, leaves the records of all commands that it does not name as they were, and the rights to their
 /// pages, and those to the rings of all queues that it does not name.

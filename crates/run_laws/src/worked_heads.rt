@@ -8,7 +8,7 @@ ghost use Rattle.machine_model.specs.WorkedQueues as queues;
 ghost use Rattle.machine_model.specs.WorkedReads.{ordinary};
 ghost use Rattle.run_laws.specs.WorkedHeads.{posted_behind, posted_behind_said, second_word, reaped_behind, reaped_behind_said, ring_behind};
 
-/// A completion is posted while a younger entry of its queue stands in the ring, not rung: its SQ head pointer is 1, where the
+/// A completion is posted while a younger entry of its queue is in the ring, not announced: its SQ head pointer is 1, where the
 /// controller fetches next, and not the tail 2.
 pub fn worked_heads()
     ensures posted { played ordinary posted_behind ≡ posted_behind_said }

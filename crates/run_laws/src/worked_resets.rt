@@ -11,7 +11,7 @@ ghost use Rattle.run_laws.specs.WorkedResets.{reset_under, reset_under_said, tim
 ///
 /// Both are lost: they are collected with the status of a deleted queue. Each was ended by one step, the reset.
 ///
-/// A deletion that was fetched before a reset is none of the queue that is made behind it.
+/// A deletion that was fetched before a reset is none of the queue that is made after it.
 pub fn worked_resets()
     ensures lost { played ordinary reset_under ≡ reset_under_said }
     ensures completed_command { times_ended 0 (made_by ordinary reset_under) ≡ 1 }

@@ -39,14 +39,14 @@ none_below : (above : ℕ) (answers : List AnswerText) (printed : List (List ℕ
 none_below above [] [] = (λ h. refl, λ e. refl)
 none_below above [] (came ∷ more) = (λ h. absurd (true≢false h), λ e. cc)
 none_below above (a ∷ rest) [] = (λ h. absurd (true≢false h), λ e. cc)
-none_below above (a ∷ rest) (came ∷ more) = go (bytes_eq a.text came) refl (none_below a.number rest more)
+none_below above (a ∷ rest) (came ∷ more) = by_text (bytes_eq a.text came) refl (none_below a.number rest more)
   where
-    go : (v : Bool) → bytes_eq a.text came ≡ v → (IsNone (difference_below a.number rest more) ↔ (texts rest ≡ more))
+    by_text : (v : Bool) → bytes_eq a.text came ≡ v → (IsNone (difference_below a.number rest more) ↔ (texts rest ≡ more))
         → IsNone (difference_below above (a ∷ rest) (came ∷ more)) ↔ (texts (a ∷ rest) ≡ came ∷ more)
-    go true e ih =
+    by_text true e ih =
         let here : a.text ≡ came = (bytes_eq-Decides a.text came).0 e in
         rw e (λ h. let later : texts rest ≡ more = ih.0 h in cc, λ both. ih.1 (let later : texts rest ≡ more = cc in later))
-    go false e ih =
+    by_text false e ih =
         rw e (λ h. absurd (true≢false h), λ both. let here : a.text ≡ came = cc in absurd (true≢false (sym ((bytes_eq-Decides a.text came).1 here) ∙ e)))
 
 pub none_if_same : NoneIfSame

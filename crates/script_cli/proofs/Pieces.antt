@@ -3,7 +3,7 @@ use Rattle.std.proofs.Common.{◌≡◌, ℕ, true, false, Some, None, Ok, Err, 
 use Rattle.io_commands.specs.declared.request.Piece.{Piece}
 use Rattle.script_cli.specs.{Grammar.{Words, begins_option, ends_pieces, pieces_from}, Pieces.piece, declared.fault.LineFault.TheVariants.BadPiece}
 
--- they end where no word is left, and where the next one stands behind them
+-- they end where no word is left, and where the next one comes after them
 pub pieces_end : (so_far : List Piece) (ws : Words) → ends_pieces ws ≡ true → pieces_from so_far ws ≡ Ok (so_far, ws)
 unfolding pieces_from
 pieces_end so_far [] ends = refl

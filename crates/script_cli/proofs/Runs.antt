@@ -1,4 +1,4 @@
--- Runs of scripts, and from where a run was cut off, the rest of the script.
+-- Runs of scripts, and the rest of a script whose run was cut off.
 use Rattle.script_cli.specs.declared.fault.ScriptFault.TheVariants as fault
 use Rattle.script_cli.specs.declared.script.Line.TheVariants as line
 use Rattle.script_cli.specs.declared.verb.CommandVerb.TheVariants as command
@@ -32,41 +32,41 @@ use Rattle.host_core.specs.{Opening.refusal_of_config, declared.config.Config.Co
 
 below : (limit : ℕ) (o : Option ℕ) (n : ℕ) → if_below limit o ≡ Some n → n < limit
 below limit None n e = absurd cc
-below limit (Some m) n e = go (nat_lt m limit) refl e
+below limit (Some m) n e = by_limit (nat_lt m limit) refl e
   where
-    go : (b : Bool) → nat_lt m limit ≡ b → (if b then Some m else None) ≡ Some n → n < limit
-    go true less e = let same : m ≡ n = cc in subst (λ k. k < limit) same (ltb-true m limit less)
-    go false less e = absurd cc
+    by_limit : (b : Bool) → nat_lt m limit ≡ b → (if b then Some m else None) ≡ Some n → n < limit
+    by_limit true less e = let same : m ≡ n = cc in subst (λ k. k < limit) same (ltb-true m limit less)
+    by_limit false less e = absurd cc
 
 number_is_below : (limit : ℕ) (word : List ℕ) (n : ℕ) → number limit word ≡ Some n → n < limit
-number_is_below limit word n e = go (nat_lt 0 (length word) && nat_le (length word) 20) e
+number_is_below limit word n e = by_length (nat_lt 0 (length word) && nat_le (length word) 20) e
   where
-    go : (b : Bool) → (if b then if_below limit (digits_from 0 word) else None) ≡ Some n → n < limit
-    go true e = below limit (digits_from 0 word) n e
-    go false e = absurd cc
+    by_length : (b : Bool) → (if b then if_below limit (digits_from 0 word) else None) ≡ Some n → n < limit
+    by_length true e = below limit (digits_from 0 word) n e
+    by_length false e = absurd cc
 
 sixteen : (o : Option (List ℕ)) (bytes : List ℕ) → if_sixteen o ≡ Some bytes → length bytes ≡ 16
 sixteen None bytes e = absurd cc
-sixteen (Some found) bytes e = go (length found == 16) refl e
+sixteen (Some found) bytes e = by_length (length found == 16) refl e
   where
-    go : (b : Bool) → (length found == 16) ≡ b → (if b then Some found else None) ≡ Some bytes → length bytes ≡ 16
-    go true long e = let same : found ≡ bytes = cc in subst (λ (xs : List ℕ). length xs ≡ 16) same (eqb-true (length found) 16 long)
-    go false long e = absurd cc
+    by_length : (b : Bool) → (length found == 16) ≡ b → (if b then Some found else None) ≡ Some bytes → length bytes ≡ 16
+    by_length true long e = let same : found ≡ bytes = cc in subst (λ (xs : List ℕ). length xs ≡ 16) same (eqb-true (length found) 16 long)
+    by_length false long e = absurd cc
 
 bucket_fits : (word : List ℕ) (p : Piece) → bucket_piece word ≡ Some p → FitsPiece p
-bucket_fits word p e = go (number32 word) refl e
+bucket_fits word p e = by_number (number32 word) refl e
   where
-    go : (o : Option ℕ) → number32 word ≡ o → option_and_then (λ len. Some (Bucket len)) o ≡ Some p → FitsPiece p
-    go None f e = absurd cc
-    go (Some len) f e = let same : Bucket len ≡ p = cc in subst FitsPiece same (number_is_below (2 ^ 32) word len f)
+    by_number : (o : Option ℕ) → number32 word ≡ o → option_and_then (λ len. Some (Bucket len)) o ≡ Some p → FitsPiece p
+    by_number None f e = absurd cc
+    by_number (Some len) f e = let same : Bucket len ≡ p = cc in subst FitsPiece same (number_is_below (2 ^ 32) word len f)
 
 data_fits : (first last : List ℕ) (p : Piece) → data_of (number32 first) (number32 last) ≡ Some p → FitsPiece p
-data_fits first last p e = go (number32 first) (number32 last) refl refl e
+data_fits first last p e = by_numbers (number32 first) (number32 last) refl refl e
   where
-    go : (a b : Option ℕ) → number32 first ≡ a → number32 last ≡ b → data_of a b ≡ Some p → FitsPiece p
-    go None b f g e = absurd cc
-    go (Some offset) None f g e = absurd cc
-    go (Some offset) (Some len) f g e =
+    by_numbers : (a b : Option ℕ) → number32 first ≡ a → number32 last ≡ b → data_of a b ≡ Some p → FitsPiece p
+    by_numbers None b f g e = absurd cc
+    by_numbers (Some offset) None f g e = absurd cc
+    by_numbers (Some offset) (Some len) f g e =
         let same : Data offset len ≡ p = cc in
         subst FitsPiece same (number_is_below (2 ^ 32) first offset f, number_is_below (2 ^ 32) last len g)
 
@@ -76,11 +76,11 @@ parts_fit offset (plus ∷ len) p e = data_fits offset len p e
 
 piece_fits : (word : List ℕ) (p : Piece) → piece word ≡ Some p → FitsPiece p
 piece_fits [] p e = absurd cc
-piece_fits (b ∷ bs) p e = go (b == 120) e
+piece_fits (b ∷ bs) p e = by_letter (b == 120) e
   where
-    go : (v : Bool) → (if v then bucket_piece bs else data_piece (before is_plus (b ∷ bs)) (onward is_plus (b ∷ bs))) ≡ Some p → FitsPiece p
-    go true e = bucket_fits bs p e
-    go false e = parts_fit (before is_plus (b ∷ bs)) (onward is_plus (b ∷ bs)) p e
+    by_letter : (v : Bool) → (if v then bucket_piece bs else data_piece (before is_plus (b ∷ bs)) (onward is_plus (b ∷ bs))) ≡ Some p → FitsPiece p
+    by_letter true e = bucket_fits bs p e
+    by_letter false e = parts_fit (before is_plus (b ∷ bs)) (onward is_plus (b ∷ bs)) p e
 
 -- Words in their order
 
@@ -103,12 +103,12 @@ bytes_fit ws = word_fits (λ (bytes : List ℕ). length bytes ≡ 16) _ sixteen_
 pieces_fit : (so_far : List Piece) (ws : Words) → All FitsPiece so_far → IfOk (pieces_from so_far ws) (λ r. All FitsPiece r.0)
 unfolding pieces_from
 pieces_fit so_far [] fit = fit
-pieces_fit so_far (word ∷ rest) fit = by (begins_option word) (go (piece word) (piece_fits word) (λ more fits. pieces_fit more rest fits))
+pieces_fit so_far (word ∷ rest) fit = by (begins_option word) (by_piece (piece word) (piece_fits word) (λ more fits. pieces_fit more rest fits))
   where
-    go : (o : Option Piece) → ((p : Piece) → o ≡ Some p → FitsPiece p) → ((more : List Piece) → All FitsPiece more → IfOk (pieces_from more rest) (λ r. All FitsPiece r.0))
+    by_piece : (o : Option Piece) → ((p : Piece) → o ≡ Some p → FitsPiece p) → ((more : List Piece) → All FitsPiece more → IfOk (pieces_from more rest) (λ r. All FitsPiece r.0))
         → IfOk (with_piece so_far (λ pieces. pieces_from pieces rest) o) (λ r. All FitsPiece r.0)
-    go None fits onward = tt
-    go (Some p) fits onward = onward (so_far ++ (p ∷ [])) (All-push FitsPiece so_far p fit (fits p refl))
+    by_piece None fits onward = tt
+    by_piece (Some p) fits onward = onward (so_far ++ (p ∷ [])) (All-push FitsPiece so_far p fit (fits p refl))
 
     by : (b : Bool) → IfOk (with_piece so_far (λ pieces. pieces_from pieces rest) (piece word)) (λ r. All FitsPiece r.0)
         → IfOk (if b then Ok (so_far, word ∷ rest) else with_piece so_far (λ pieces. pieces_from pieces rest) (piece word)) (λ r. All FitsPiece r.0)
@@ -135,18 +135,18 @@ no_more_fits ws what fit = ended_fits IsFitLine ws what fit
 -- a namespace, where one is named
 
 namespace_fits : (ws : Words) → IfOk (namespace_word ws) (λ r. r.0 < 2 ^ 32)
-namespace_fits ws = then_fits (λ n. n.0 < 2 ^ 32) (λ n. n.0 < 2 ^ 32) (number_word (2 ^ 32) ws) _ (number_fits (2 ^ 32) ws) λ n few. go (n.0 == 0) n few
+namespace_fits ws = then_fits (λ n. n.0 < 2 ^ 32) (λ n. n.0 < 2 ^ 32) (number_word (2 ^ 32) ws) _ (number_fits (2 ^ 32) ws) λ n few. by_zero (n.0 == 0) n few
   where
-    go : (b : Bool) (n : ℕ × Words) → n.0 < 2 ^ 32 → IfOk (if b then Err BadNumber else Ok n) (λ r. r.0 < 2 ^ 32)
-    go true n few = tt
-    go false n few = few
+    by_zero : (b : Bool) (n : ℕ × Words) → n.0 < 2 ^ 32 → IfOk (if b then Err BadNumber else Ok n) (λ r. r.0 < 2 ^ 32)
+    by_zero true n few = tt
+    by_zero false n few = few
 
 nsid_fits : (ws : Words) → IfOk (nsid_words ws) (λ r. r.0 < 2 ^ 32)
-nsid_fits ws = whatever_fits (λ r. r.0 < 2 ^ 32) (named_word (codes "nsid") ws) _ λ named. go named.0 named.1
+nsid_fits ws = whatever_fits (λ r. r.0 < 2 ^ 32) (named_word (codes "nsid") ws) _ λ named. by_presence named.0 named.1
   where
-    go : (b : Bool) (rest : Words) → IfOk (if b then namespace_word rest else Ok (1, rest)) (λ r. r.0 < 2 ^ 32)
-    go true rest = namespace_fits rest
-    go false rest = omega arith
+    by_presence : (b : Bool) (rest : Words) → IfOk (if b then namespace_word rest else Ok (1, rest)) (λ r. r.0 < 2 ^ 32)
+    by_presence true rest = namespace_fits rest
+    by_presence false rest = omega arith
 
 request_fits : (kind : Kind) (slba blocks : ℕ) (ws : Words) → slba < 2 ^ 64 → blocks < 2 ^ 32 → IfOk (request_words kind slba blocks ws) FitsRequest
 request_fits kind slba blocks ws low few =
@@ -163,11 +163,11 @@ vector_named_fits : (ws : Words) → IfOk (vector_word ws) (λ r. IfSome r.0 (λ
 vector_named_fits ws = then_fits (λ n. n.0 < 2 ^ 16) (λ r. IfSome r.0 (λ v. v < 2 ^ 16)) (number_word (2 ^ 16) ws) _ (number_fits (2 ^ 16) ws) λ n few. few
 
 vector_fits : (ws : Words) → IfOk (vector_words ws) (λ r. IfSome r.0 (λ v. v < 2 ^ 16))
-vector_fits ws = whatever_fits (λ r. IfSome r.0 (λ v. v < 2 ^ 16)) (named_word (codes "vector") ws) _ λ named. go named.0 named.1
+vector_fits ws = whatever_fits (λ r. IfSome r.0 (λ v. v < 2 ^ 16)) (named_word (codes "vector") ws) _ λ named. by_presence named.0 named.1
   where
-    go : (b : Bool) (rest : Words) → IfOk (if b then vector_word rest else Ok (None, rest)) (λ r. IfSome r.0 (λ v. v < 2 ^ 16))
-    go true rest = vector_named_fits rest
-    go false rest = tt
+    by_presence : (b : Bool) (rest : Words) → IfOk (if b then vector_word rest else Ok (None, rest)) (λ r. IfSome r.0 (λ v. v < 2 ^ 16))
+    by_presence true rest = vector_named_fits rest
+    by_presence false rest = tt
 
 -- Lines by their verbs
 
@@ -247,21 +247,21 @@ known_verb_fits ws (Some verb) = verb_fits ws verb
 
 words_fit : (ws : Words) → IfOk (line_of_words ws) IsFitLine
 words_fit [] = tt
-words_fit (first ∷ rest) = go (begins_comment first)
+words_fit (first ∷ rest) = by_comment (begins_comment first)
   where
-    go : (b : Bool) → IfOk (if b then Ok line.Nothing else known_verb_line rest (verb_named first)) IsFitLine
-    go true = tt
-    go false = known_verb_fits rest (verb_named first)
+    by_comment : (b : Bool) → IfOk (if b then Ok line.Nothing else known_verb_line rest (verb_named first)) IsFitLine
+    by_comment true = tt
+    by_comment false = known_verb_fits rest (verb_named first)
 
 line_fits : (bytes : List ℕ) → IfOk (line_of bytes) IsFitLine
 line_fits bytes = whatever_fits IsFitLine (words_of bytes) line_of_words words_fit
 
 numbered_fits : (n : ℕ) (bytes : List ℕ) → IfOk (numbered_line n bytes) IsFitLine
-numbered_fits n bytes = go (nat_lt 65536 n)
+numbered_fits n bytes = by_line_number (nat_lt 65536 n)
   where
-    go : (b : Bool) → IfOk (if b then Err TooManyLines else line_of bytes) IsFitLine
-    go true = tt
-    go false = line_fits bytes
+    by_line_number : (b : Bool) → IfOk (if b then Err TooManyLines else line_of bytes) IsFitLine
+    by_line_number true = tt
+    by_line_number false = line_fits bytes
 
 -- Scripts
 
@@ -272,34 +272,34 @@ with_line_fits so_far n line.Nothing all fit = all
 
 lines_fit : (so_far : List Numbered) (n : ℕ) (bytes : List (List ℕ)) → AreFitLines so_far → IfOk (script_from so_far n bytes) AreFitLines
 lines_fit so_far n [] all = all
-lines_fit so_far n (bytes ∷ rest) all = go (numbered_line n bytes) (numbered_fits n bytes) (λ more fits. lines_fit more (n + 1) rest fits)
+lines_fit so_far n (bytes ∷ rest) all = by_line (numbered_line n bytes) (numbered_fits n bytes) (λ more fits. lines_fit more (n + 1) rest fits)
   where
-    go : (r : Result Line LineFault) → IfOk r IsFitLine → ((more : List Numbered) → AreFitLines more → IfOk (script_from more (n + 1) rest) AreFitLines)
+    by_line : (r : Result Line LineFault) → IfOk r IsFitLine → ((more : List Numbered) → AreFitLines more → IfOk (script_from more (n + 1) rest) AreFitLines)
         → IfOk (then_lines so_far n (λ more. script_from more (n + 1) rest) r) AreFitLines
-    go (Ok what) fit onward = onward (with_line so_far n what) (with_line_fits so_far n what all fit)
-    go (Err why) fit onward = tt
+    by_line (Ok what) fit onward = onward (with_line so_far n what) (with_line_fits so_far n what all fit)
+    by_line (Err why) fit onward = tt
 
 -- each step of a script without faults has numbers that fit
 pub scripts_are_fit : (text : List ℕ) (script : List Numbered) → script_of text ≡ Ok script → AreFitLines script
-scripts_are_fit text script e = go (nat_lt 1048576 (length text)) e
+scripts_are_fit text script e = by_length (nat_lt 1048576 (length text)) e
   where
-    go : (b : Bool) → (if b then Err fault.TooLong else script_from [] 1 (lines text)) ≡ Ok script → AreFitLines script
-    go true e = absurd cc
-    go false e = rw e at (lines_fit [] 1 (lines text) tt)
+    by_length : (b : Bool) → (if b then Err fault.TooLong else script_from [] 1 (lines text)) ≡ Ok script → AreFitLines script
+    by_length true e = absurd cc
+    by_length false e = rw e at (lines_fit [] 1 (lines text) tt)
 
--- Where each page of a pool stands in a claim, there is a list of the owners of all pages.
+-- Where each page of a pool is in a claim, there is a list of the owners of all pages.
 
--- a page that claims count stands in one of them
+-- a page that claims count is in one of them
 claim_found : (p : ℕ) (claims : List (ℕ × Owner)) → 0 < times p (map (λ claim. claim.0) claims) → (owner : Owner) × Contains claims (p, owner)
 claim_found p [] some = absurd (omega arith)
-claim_found p ((page, owner) ∷ claims) some = go (page == p) refl some (claim_found p claims)
+claim_found p ((page, owner) ∷ claims) some = by_page (page == p) refl some (claim_found p claims)
   where
-    go : (b : Bool) → (page == p) ≡ b → 0 < (if b then 1 + times p (map (λ claim. claim.0) claims) else times p (map (λ claim. claim.0) claims))
+    by_page : (b : Bool) → (page == p) ≡ b → 0 < (if b then 1 + times p (map (λ claim. claim.0) claims) else times p (map (λ claim. claim.0) claims))
         → (0 < times p (map (λ claim. claim.0) claims) → (o : Owner) × Contains claims (p, o)) → (o : Owner) × Contains ((page, owner) ∷ claims) (p, o)
-    go true e some ih = (owner, (0, omega arith, ap (λ (n : ℕ). (n, owner)) (eqb-true page p e)))
-    go false e some ih = let found = ih some in (found.0, Contains-append_right ((page, owner) ∷ []) claims (p, found.0) found.1)
+    by_page true e some ih = (owner, (0, omega arith, ap (λ (n : ℕ). (n, owner)) (eqb-true page p e)))
+    by_page false e some ih = let found = ih some in (found.0, Contains-append_right ((page, owner) ∷ []) claims (p, found.0) found.1)
 
--- owners of which each is one of its page
+-- owners, each of them one of its page
 record AreListed (IsOf : ℕ → Owner → Type 0) (count : ℕ) : Type 0 where
   owners : List Owner
   all : length owners ≡ count
@@ -307,28 +307,28 @@ record AreListed (IsOf : ℕ → Owner → Type 0) (count : ℕ) : Type 0 where
 
 listed : (IsOf : ℕ → Owner → Type 0) (count : ℕ) → ((p : ℕ) → p < count → (owner : Owner) × IsOf p owner) → AreListed IsOf count
 listed IsOf zero there = record { owners = []; all = refl; each = λ p owner e. absurd cc }
-listed IsOf (suc n) there = go (there 0 (omega arith)) (listed (λ p owner. IsOf (suc p) owner) n (λ p less. there (suc p) (omega arith)))
+listed IsOf (suc n) there = one_more_listed (there 0 (omega arith)) (listed (λ p owner. IsOf (suc p) owner) n (λ p less. there (suc p) (omega arith)))
   where
     at : (first : Owner) (rest : List Owner) → IsOf 0 first → ((p : ℕ) (owner : Owner) → slice_get rest p ≡ Some owner → IsOf (suc p) owner)
         → (p : ℕ) (owner : Owner) → slice_get (first ∷ rest) p ≡ Some owner → IsOf p owner
     at first rest here more zero owner e = let same : first ≡ owner = cc in subst (IsOf 0) same here
     at first rest here more (suc p) owner e = more p owner e
 
-    go : (owner : Owner) × IsOf 0 owner → AreListed (λ p owner. IsOf (suc p) owner) n → AreListed IsOf (suc n)
-    go (first, here) rest = record { owners = first ∷ rest.owners; all = ap suc rest.all; each = at first rest.owners here rest.each }
+    one_more_listed : (owner : Owner) × IsOf 0 owner → AreListed (λ p owner. IsOf (suc p) owner) n → AreListed IsOf (suc n)
+    one_more_listed (first, here) rest = record { owners = first ∷ rest.owners; all = ap suc rest.all; each = at first rest.owners here rest.each }
 
 pub owners_there : (s : State) → IsSound s → (owners : List Owner) × AreOwners s owners
-owners_there s sound = go (listed (λ p owner. Contains (claims_of s.host) (p, owner)) (length s.memory) claimed)
+owners_there s sound = are_owners (listed (λ p owner. Contains (claims_of s.host) (p, owner)) (length s.memory) claimed)
   where
     claimed : (p : ℕ) → p < length s.memory → (owner : Owner) × Contains (claims_of s.host) (p, owner)
     claimed p less =
         let one : times p (map (λ claim. claim.0) (claims_of s.host)) ≡ 1 = rw (lt-ltb p (length s.memory) less) at (sound.owners p) in
         claim_found p (claims_of s.host) (omega (arith, one))
 
-    go : AreListed (λ p owner. Contains (claims_of s.host) (p, owner)) (length s.memory) → (owners : List Owner) × AreOwners s owners
-    go found = (found.owners, record { all = found.all; claim = found.each })
+    are_owners : AreListed (λ p owner. Contains (claims_of s.host) (p, owner)) (length s.memory) → (owners : List Owner) × AreOwners s owners
+    are_owners found = (found.owners, record { all = found.all; claim = found.each })
 
--- From where a run of a script was cut off, the rest of the script can be run.
+-- Starting where a run of a script was cut off, the rest of the script can be run.
 
 -- each line prints something
 pub line_goes_on : (t : Table) (n : ℕ) (what : Line) → IsTableInOrder t → IsFitLine what → (said : List ℕ) × (unwell : ℕ) × (new : Table) × PrintsLine t n what said unwell new
@@ -371,13 +371,13 @@ fit_after (first ∷ rest) left fit = fit_after rest left fit.1
 
 -- what the lines done print begins the text of a run of all lines
 pub front_of_first_is_cut : (t : Table) (script : List Numbered) (text : List ℕ) → IsTableInOrder t → AreFitLines script → IsFrontOfFirst t script text → IsCutText t script text
-front_of_first_is_cut t script text order fit (done, left, last, said, unwell, split, run, front) = go left split front
+front_of_first_is_cut t script text order fit (done, left, last, said, unwell, split, run, front) = by_lines_left left split front
   where
-    go : (left : List Numbered) → script ≡ done ++ left → IsFront text (said ++ last_line left last) → IsCutText t script text
-    go [] split front =
+    by_lines_left : (left : List Numbered) → script ≡ done ++ left → IsFront text (said ++ last_line left last) → IsCutText t script text
+    by_lines_left [] split front =
         let all : script ≡ done = grind (arith, common_steps) in
         (said ++ last_line [] last, (last, said, unwell, rw all run, refl), front)
-    go (next ∷ others) split (rest, joined) =
+    by_lines_left (next ∷ others) split (rest, joined) =
         let (more, later, new, onward) = lines_go_on last (next ∷ others) (prints_keep_order t done said unwell last order run) (fit_after done (next ∷ others) (subst AreFitLines split fit)) in (
           (said ++ more) ++ last_line [] new,
           (new, said ++ more, unwell + later, rw split (joins t done (next ∷ others) said more unwell later last new run onward), refl),
@@ -486,7 +486,7 @@ run_to_text told config image last counted a b (script, has, fits, (text, (said,
 pub kept_gains : (a b c : Option (List ℕ)) (Holds : List ℕ → Type 0) → Gains a b Holds → Keeps b c → Gains a c Holds
 kept_gains a b c Holds (bytes, holds, first) kept = (bytes, holds, keeps_then a b c bytes first kept)
 
--- a whole text is a front of itself
+-- a whole text is a prefix of itself
 pub whole_is_cut : (t : Table) (script : List Numbered) (a b : Option (List ℕ)) → Gains a b (IsRunText t script) → Gains a b (IsFrontOfFirst t script)
 whole_is_cut t script a b (text, (last, said, unwell, run, joined), first) =
     (text, (script, [], last, said, unwell, grind (arith, common_steps), run, ([], grind (arith, common_steps))), first)

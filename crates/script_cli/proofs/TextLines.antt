@@ -21,11 +21,11 @@ strip_front : (b c : ℕ) (y : List ℕ) → strip_carriage_return (b ∷ c ∷ 
 strip_front b c y =
     let e : length (b ∷ c ∷ y) - 1 ≡ suc (length y) = omega arith in
     let f : length (c ∷ y) - 1 ≡ length y = omega arith in
-    ap (λ (n : ℕ). strip_at n (b ∷ c ∷ y)) e ∙ go (get_or (c ∷ y) (length y) 0 == 13) ∙ ap (λ (n : ℕ). b ∷ strip_at n (c ∷ y)) (sym f)
+    ap (λ (n : ℕ). strip_at n (b ∷ c ∷ y)) e ∙ by_return (get_or (c ∷ y) (length y) 0 == 13) ∙ ap (λ (n : ℕ). b ∷ strip_at n (c ∷ y)) (sym f)
   where
-    go : (v : Bool) → (if v then b ∷ take (length y) (c ∷ y) else b ∷ c ∷ y) ≡ b ∷ (if v then take (length y) (c ∷ y) else c ∷ y)
-    go true = refl
-    go false = refl
+    by_return : (v : Bool) → (if v then b ∷ take (length y) (c ∷ y) else b ∷ c ∷ y) ≡ b ∷ (if v then take (length y) (c ∷ y) else c ∷ y)
+    by_return true = refl
+    by_return false = refl
 
 parts_cons : (x : List ℕ) (ps : List (List ℕ)) → 0 < length ps → lines_of_parts (x ∷ ps) ≡ strip_carriage_return x ∷ lines_of_parts ps
 parts_cons x [] some = absurd (omega arith)
@@ -52,24 +52,24 @@ not_feed b false true false x e f = refl
 not_feed b false false u x e f = refl
 
 at_line : (b : ℕ) (bs : List ℕ) → std.lines bs ≡ lines bs → std.lines (b ∷ bs) ≡ lines (b ∷ bs)
-at_line b [] ih = go (is_feed b) refl (is_dropped b []) refl
+at_line b [] ih = by_byte (is_feed b) refl (is_dropped b []) refl
   where
-    go : (v : Bool) → is_feed b ≡ v → (w : Bool) → is_dropped b [] ≡ w → std.lines (b ∷ []) ≡ lines (b ∷ [])
-    go true e w f = rw e refl
-    go false e true f = absurd (true≢false (sym (and_parts (b == 13) false f).1))
-    go false e false f = rw (e, f) refl
-at_line b (c ∷ cs) ih = go (is_feed b) refl (is_feed c) refl ih
+    by_byte : (v : Bool) → is_feed b ≡ v → (w : Bool) → is_dropped b [] ≡ w → std.lines (b ∷ []) ≡ lines (b ∷ [])
+    by_byte true e w f = rw e refl
+    by_byte false e true f = absurd (true≢false (sym (and_parts (b == 13) false f).1))
+    by_byte false e false f = rw (e, f) refl
+at_line b (c ∷ cs) ih = by_two_bytes (is_feed b) refl (is_feed c) refl ih
   where
-    go : (v : Bool) → is_feed b ≡ v → (w : Bool) → is_feed c ≡ w → std.lines (c ∷ cs) ≡ lines (c ∷ cs) → std.lines (b ∷ c ∷ cs) ≡ lines (b ∷ c ∷ cs)
-    go true e w f same = rw e (parts_cons [] (parts (c ∷ cs)) (some_parts (c ∷ cs)) ∙ ap (λ (l : List (List ℕ)). [] ∷ l) same)
-    go false e true f same =
+    by_two_bytes : (v : Bool) → is_feed b ≡ v → (w : Bool) → is_feed c ≡ w → std.lines (c ∷ cs) ≡ lines (c ∷ cs) → std.lines (b ∷ c ∷ cs) ≡ lines (b ∷ c ∷ cs)
+    by_two_bytes true e w f same = rw e (parts_cons [] (parts (c ∷ cs)) (some_parts (c ∷ cs)) ∙ ap (λ (l : List (List ℕ)). [] ∷ l) same)
+    by_two_bytes false e true f same =
         let later : lines_of_parts (parts cs) ≡ lines cs = tail_same _ _ (sym (parts_cons [] (parts cs) (some_parts cs)) ∙ (rw f at same)) in
         rw (e, f) (parts_cons (b ∷ []) (parts cs) (some_parts cs) ∙ ap (λ (l : List (List ℕ)). strip_carriage_return (b ∷ []) ∷ l) later ∙ pick (b == 13))
       where
         pick : (v : Bool) → (if v then [] else b ∷ []) ∷ lines cs ≡ (if v && true then [] ∷ lines cs else (b ∷ []) ∷ lines cs)
         pick true = refl
         pick false = refl
-    go false e false f same =
+    by_two_bytes false e false f same =
         let here : std.lines (b ∷ c ∷ cs) ≡ onto_first b (std.lines (c ∷ cs)) = rw (e, f) (front_onto b c (parts cs)) in
         here ∙ ap (onto_first b) same ∙ not_feed b (is_feed b) (b == 13) (is_feed c) (lines (c ∷ cs)) e f
 

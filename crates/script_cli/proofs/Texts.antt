@@ -1,4 +1,4 @@
--- Texts: lines, words and digits that are read from their front; what was read and written.
+-- Texts: lines, words and digits that are read from their start; what was read and written.
 use Rattle.script_cli.specs.declared.fault.ScriptFault.TheVariants as fault
 use Rattle.std.proofs.Common.{arith, ◌≡◌, ◌<◌, ◌≤◌, ◌+◌, ◌-◌, ℕ, Bool, true, false, nat_lt, Option, Some, None, List, [], ◌++◌, append_assoc, length, take, drop, refl, sym, ap, ◌∙◌, subst, if◌then◌else◌, suc, ◌==◌, ◌∷◌, not, ◌*◌, zero, get_or, replicate, nat_eq, Result, Ok, Err}
 use Rattle.std.proofs.lemmas.{Bool.{ltb-true, ltb-false, true≢false, and_parts, le-ltb}, Grind.common_steps}
@@ -48,14 +48,14 @@ limit_is_first limit (Some xs) (Some ys) bytes most read = (xs, refl, rw read (s
 
 -- the first bytes are all, where they are no more than the limit
 pub first_are_all : (limit : ℕ) (bytes all : List ℕ) → bytes ≡ take (limit + 1) all → length bytes ≤ limit → bytes ≡ all
-first_are_all limit bytes all first few = go (nat_lt limit (length all)) refl
+first_are_all limit bytes all first few = by_length (nat_lt limit (length all)) refl
   where
-    go : (b : Bool) → nat_lt limit (length all) ≡ b → bytes ≡ all
-    go true e =
+    by_length : (b : Bool) → nat_lt limit (length all) ≡ b → bytes ≡ all
+    by_length true e =
         let long : limit < length all = ltb-true limit (length all) e in
         let len : length bytes ≡ limit + 1 = ap length first ∙ length-take-le (limit + 1) all (omega (arith, long)) in
         absurd (omega (arith, len, few))
-    go false e = first ∙ take_all (limit + 1) all (omega (arith, ltb-false limit (length all) e))
+    by_length false e = first ∙ take_all (limit + 1) all (omega (arith, ltb-false limit (length all) e))
 
 -- and more than the limit only where all are
 pub first_are_long : (limit : ℕ) (bytes all : List ℕ) → bytes ≡ take (limit + 1) all → limit < length all → length bytes ≡ limit + 1
@@ -79,15 +79,15 @@ no_image_is_told told bytes bad (all, same, first) = (all, same, none)
 
 pub same_if_short : {A : Type 0} (long : A) (f : List ℕ → A) (text all : List ℕ) → text ≡ take (1048576 + 1) all
     → (if nat_lt 1048576 (length text) then long else f text) ≡ (if nat_lt 1048576 (length all) then long else f all)
-same_if_short {A} long f text all first = go (nat_lt 1048576 (length all)) refl
+same_if_short {A} long f text all first = by_length (nat_lt 1048576 (length all)) refl
   where
-    go : (b : Bool) → nat_lt 1048576 (length all) ≡ b → (if nat_lt 1048576 (length text) then long else f text) ≡ (if nat_lt 1048576 (length all) then long else f all)
-    go true e =
+    by_length : (b : Bool) → nat_lt 1048576 (length all) ≡ b → (if nat_lt 1048576 (length text) then long else f text) ≡ (if nat_lt 1048576 (length all) then long else f all)
+    by_length true e =
         let more : 1048576 < length all = ltb-true 1048576 (length all) e in
         let len = first_are_long 1048576 text all first more in
         let l : nat_lt 1048576 (length text) ≡ true = ap (nat_lt 1048576) len in
         rw (e, l) refl
-    go false e =
+    by_length false e =
         let few : length all ≤ 1048576 = ltb-false 1048576 (length all) e in
         let same : text ≡ all = first ∙ take_all (1048576 + 1) all (omega (arith, few)) in
         ap (λ (t : List ℕ). if nat_lt 1048576 (length t) then long else f t) same
@@ -97,40 +97,40 @@ same_if_short {A} long f text all first = go (nat_lt 1048576 (length all)) refl
 -- Lines
 
 pub lines_cut : (b : ℕ) (bs : List ℕ) → lines (b ∷ bs) ≡ first_line (b ∷ bs) ∷ lines (after_line (b ∷ bs))
-lines_cut b [] = go (is_feed b) refl (is_dropped b []) refl
+lines_cut b [] = by_byte (is_feed b) refl (is_dropped b []) refl
   where
-    go : (v : Bool) → is_feed b ≡ v → (w : Bool) → is_dropped b [] ≡ w → lines (b ∷ []) ≡ first_line (b ∷ []) ∷ lines (after_line (b ∷ []))
-    go true e w f = rw e refl
-    go false e true f = absurd (true≢false (sym (and_parts (b == 13) false f).1))
-    go false e false f = rw (e, f) refl
-lines_cut b (c ∷ cs) = go (is_feed b) refl (is_dropped b (c ∷ cs)) refl (lines_cut c cs)
+    by_byte : (v : Bool) → is_feed b ≡ v → (w : Bool) → is_dropped b [] ≡ w → lines (b ∷ []) ≡ first_line (b ∷ []) ∷ lines (after_line (b ∷ []))
+    by_byte true e w f = rw e refl
+    by_byte false e true f = absurd (true≢false (sym (and_parts (b == 13) false f).1))
+    by_byte false e false f = rw (e, f) refl
+lines_cut b (c ∷ cs) = by_byte (is_feed b) refl (is_dropped b (c ∷ cs)) refl (lines_cut c cs)
   where
-    go : (v : Bool) → is_feed b ≡ v → (w : Bool) → is_dropped b (c ∷ cs) ≡ w → lines (c ∷ cs) ≡ first_line (c ∷ cs) ∷ lines (after_line (c ∷ cs))
+    by_byte : (v : Bool) → is_feed b ≡ v → (w : Bool) → is_dropped b (c ∷ cs) ≡ w → lines (c ∷ cs) ≡ first_line (c ∷ cs) ∷ lines (after_line (c ∷ cs))
         → lines (b ∷ c ∷ cs) ≡ first_line (b ∷ c ∷ cs) ∷ lines (after_line (b ∷ c ∷ cs))
-    go true e w f ih = rw e refl
-    go false e true f ih = rw (e, f) (rw ((and_parts (b == 13) (is_feed c) f).1) refl)
-    go false e false f ih = rw (e, f) (ap (onto_first b) ih)
+    by_byte true e w f ih = rw e refl
+    by_byte false e true f ih = rw (e, f) (rw ((and_parts (b == 13) (is_feed c) f).1) refl)
+    by_byte false e false f ih = rw (e, f) (ap (onto_first b) ih)
 
--- What stands before the first byte that passes a test, and what from it on
+-- What is before the first byte that passes a test, and what starts at it
 
 one_more : (n : ℕ) → 1 + n ≡ suc n
 one_more n = omega arith
 
 pub cut_before : (p : ℕ → Bool) (text : List ℕ) → take (position_or_len p text) text ≡ before p text
 cut_before p [] = refl
-cut_before p (b ∷ bs) = go (p b) refl (cut_before p bs)
+cut_before p (b ∷ bs) = by_test (p b) refl (cut_before p bs)
   where
-    go : (v : Bool) → p b ≡ v → take (position_or_len p bs) bs ≡ before p bs → take (position_or_len p (b ∷ bs)) (b ∷ bs) ≡ before p (b ∷ bs)
-    go true e ih = rw e refl
-    go false e ih = rw e (rw (one_more (position_or_len p bs)) (ap (λ (l : List ℕ). b ∷ l) ih))
+    by_test : (v : Bool) → p b ≡ v → take (position_or_len p bs) bs ≡ before p bs → take (position_or_len p (b ∷ bs)) (b ∷ bs) ≡ before p (b ∷ bs)
+    by_test true e ih = rw e refl
+    by_test false e ih = rw e (rw (one_more (position_or_len p bs)) (ap (λ (l : List ℕ). b ∷ l) ih))
 
 pub cut_onward : (p : ℕ → Bool) (text : List ℕ) → drop (position_or_len p text) text ≡ onward p text
 cut_onward p [] = refl
-cut_onward p (b ∷ bs) = go (p b) refl (cut_onward p bs)
+cut_onward p (b ∷ bs) = by_test (p b) refl (cut_onward p bs)
   where
-    go : (v : Bool) → p b ≡ v → drop (position_or_len p bs) bs ≡ onward p bs → drop (position_or_len p (b ∷ bs)) (b ∷ bs) ≡ onward p (b ∷ bs)
-    go true e ih = rw e refl
-    go false e ih = rw e (rw (one_more (position_or_len p bs)) ih)
+    by_test : (v : Bool) → p b ≡ v → drop (position_or_len p bs) bs ≡ onward p bs → drop (position_or_len p (b ∷ bs)) (b ∷ bs) ≡ onward p (b ∷ bs)
+    by_test true e ih = rw e refl
+    by_test false e ih = rw e (rw (one_more (position_or_len p bs)) ih)
 
 -- Parts
 
@@ -138,73 +138,73 @@ cut_onward p (b ∷ bs) = go (p b) refl (cut_onward p bs)
 part_goes_on : (p : ℕ → Bool) (b : ℕ) (bs : List ℕ) →
     (if begins_part p bs then onto_first b (parts_between p bs) else (b ∷ []) ∷ parts_between p bs) ≡ (b ∷ before p bs) ∷ parts_between p (onward p bs)
 part_goes_on p b [] = refl
-part_goes_on p b (c ∷ cs) = go (p c) refl (part_goes_on p c cs)
+part_goes_on p b (c ∷ cs) = by_separator (p c) refl (part_goes_on p c cs)
   where
-    go : (v : Bool) → p c ≡ v
+    by_separator : (v : Bool) → p c ≡ v
         → (if begins_part p cs then onto_first c (parts_between p cs) else (c ∷ []) ∷ parts_between p cs) ≡ (c ∷ before p cs) ∷ parts_between p (onward p cs)
         → (if begins_part p (c ∷ cs) then onto_first b (parts_between p (c ∷ cs)) else (b ∷ []) ∷ parts_between p (c ∷ cs)) ≡ (b ∷ before p (c ∷ cs)) ∷ parts_between p (onward p (c ∷ cs))
-    go true e ih = rw e (rw e refl)
-    go false e ih = rw e (ap (onto_first b) ih)
+    by_separator true e ih = rw e (rw e refl)
+    by_separator false e ih = rw e (ap (onto_first b) ih)
 
--- what is left where the separating bytes at the front are dropped
+-- what is left where the separating bytes at the start are dropped
 abbrev pub begun : (ℕ → Bool) → List ℕ → List ℕ
 begun p text = onward (λ b. not (p b)) text
 
 pub part_is_first : (p : ℕ → Bool) (text : List ℕ) → 0 < length (begun p text) → parts_between p text ≡ before p (begun p text) ∷ parts_between p (onward p (begun p text))
 part_is_first p [] some = absurd (omega arith)
-part_is_first p (b ∷ bs) some = go (p b) refl some (part_is_first p bs)
+part_is_first p (b ∷ bs) some = by_separator (p b) refl some (part_is_first p bs)
   where
-    go : (v : Bool) → p b ≡ v → 0 < length (begun p (b ∷ bs)) → (0 < length (begun p bs) → parts_between p bs ≡ before p (begun p bs) ∷ parts_between p (onward p (begun p bs)))
+    by_separator : (v : Bool) → p b ≡ v → 0 < length (begun p (b ∷ bs)) → (0 < length (begun p bs) → parts_between p bs ≡ before p (begun p bs) ∷ parts_between p (onward p (begun p bs)))
         → parts_between p (b ∷ bs) ≡ before p (begun p (b ∷ bs)) ∷ parts_between p (onward p (begun p (b ∷ bs)))
-    go true e some ih = rw e (ih (rw e at some))
-    go false e some ih = rw e (rw e (part_goes_on p b bs))
+    by_separator true e some ih = rw e (ih (rw e at some))
+    by_separator false e some ih = rw e (rw e (part_goes_on p b bs))
 
 pub no_part : (p : ℕ → Bool) (text : List ℕ) → length (begun p text) ≡ 0 → parts_between p text ≡ []
 no_part p [] none = refl
-no_part p (b ∷ bs) none = go (p b) refl none (no_part p bs)
+no_part p (b ∷ bs) none = by_separator (p b) refl none (no_part p bs)
   where
-    go : (v : Bool) → p b ≡ v → length (begun p (b ∷ bs)) ≡ 0 → (length (begun p bs) ≡ 0 → parts_between p bs ≡ []) → parts_between p (b ∷ bs) ≡ []
-    go true e none ih = rw e (ih (rw e at none))
-    go false e none ih = let one : suc (length bs) ≡ 0 = rw e at none in absurd (omega arith)
+    by_separator : (v : Bool) → p b ≡ v → length (begun p (b ∷ bs)) ≡ 0 → (length (begun p bs) ≡ 0 → parts_between p bs ≡ []) → parts_between p (b ∷ bs) ≡ []
+    by_separator true e none ih = rw e (ih (rw e at none))
+    by_separator false e none ih = let one : suc (length bs) ≡ 0 = rw e at none in absurd (omega arith)
 
 -- Lines as they are cut
 
 pub feed_missing : (text : List ℕ) → onward is_feed text ≡ [] → (first_line text ≡ text) × (after_line text ≡ [])
 feed_missing [] none = (refl, refl)
-feed_missing (b ∷ []) none = go (is_feed b) refl (b == 13) refl none
+feed_missing (b ∷ []) none = by_byte (is_feed b) refl (b == 13) refl none
   where
-    go : (v : Bool) → is_feed b ≡ v → (w : Bool) → (b == 13) ≡ w → onward is_feed (b ∷ []) ≡ [] → (first_line (b ∷ []) ≡ b ∷ []) × (after_line (b ∷ []) ≡ [])
-    go true e w f none = let no : b ∷ [] ≡ [] = rw e at none in cc
-    go false e true f none = (rw (e, f) refl, rw e refl)
-    go false e false f none = (rw (e, f) refl, rw e refl)
-feed_missing (b ∷ c ∷ cs) none = go (is_feed b) refl (is_feed c) refl (b == 13) refl none (feed_missing (c ∷ cs))
+    by_byte : (v : Bool) → is_feed b ≡ v → (w : Bool) → (b == 13) ≡ w → onward is_feed (b ∷ []) ≡ [] → (first_line (b ∷ []) ≡ b ∷ []) × (after_line (b ∷ []) ≡ [])
+    by_byte true e w f none = let no : b ∷ [] ≡ [] = rw e at none in cc
+    by_byte false e true f none = (rw (e, f) refl, rw e refl)
+    by_byte false e false f none = (rw (e, f) refl, rw e refl)
+feed_missing (b ∷ c ∷ cs) none = by_two_bytes (is_feed b) refl (is_feed c) refl (b == 13) refl none (feed_missing (c ∷ cs))
   where
-    go : (v : Bool) → is_feed b ≡ v → (w : Bool) → is_feed c ≡ w → (r : Bool) → (b == 13) ≡ r → onward is_feed (b ∷ c ∷ cs) ≡ []
+    by_two_bytes : (v : Bool) → is_feed b ≡ v → (w : Bool) → is_feed c ≡ w → (r : Bool) → (b == 13) ≡ r → onward is_feed (b ∷ c ∷ cs) ≡ []
         → (onward is_feed (c ∷ cs) ≡ [] → (first_line (c ∷ cs) ≡ c ∷ cs) × (after_line (c ∷ cs) ≡ []))
         → (first_line (b ∷ c ∷ cs) ≡ b ∷ c ∷ cs) × (after_line (b ∷ c ∷ cs) ≡ [])
-    go true e w f r g none ih = let no : b ∷ c ∷ cs ≡ [] = rw e at none in cc
-    go false e true f r g none ih = let no : c ∷ cs ≡ [] = rw (e, f) at none in cc
-    go false e false f true g none ih = let rest = ih (rw e at none) in (rw (e, f, g) (ap (λ (l : List ℕ). b ∷ l) (rw f at (rest.0))), rw e (rest.1))
-    go false e false f false g none ih = let rest = ih (rw e at none) in (rw (e, f, g) (ap (λ (l : List ℕ). b ∷ l) (rw f at (rest.0))), rw e (rest.1))
+    by_two_bytes true e w f r g none ih = let no : b ∷ c ∷ cs ≡ [] = rw e at none in cc
+    by_two_bytes false e true f r g none ih = let no : c ∷ cs ≡ [] = rw (e, f) at none in cc
+    by_two_bytes false e false f true g none ih = let rest = ih (rw e at none) in (rw (e, f, g) (ap (λ (l : List ℕ). b ∷ l) (rw f at (rest.0))), rw e (rest.1))
+    by_two_bytes false e false f false g none ih = let rest = ih (rw e at none) in (rw (e, f, g) (ap (λ (l : List ℕ). b ∷ l) (rw f at (rest.0))), rw e (rest.1))
 
 -- the text before its first line feed
 pub feed_found : (text : List ℕ) (x : ℕ) (after : List ℕ) → onward is_feed text ≡ x ∷ after → (first_line text ≡ unreturned (before is_feed text)) × (after_line text ≡ after)
 feed_found [] x after found = cc
-feed_found (b ∷ []) x after found = go (is_feed b) refl found
+feed_found (b ∷ []) x after found = by_feed (is_feed b) refl found
   where
-    go : (v : Bool) → is_feed b ≡ v → onward is_feed (b ∷ []) ≡ x ∷ after → (first_line (b ∷ []) ≡ unreturned (before is_feed (b ∷ []))) × (after_line (b ∷ []) ≡ after)
-    go true e found = let same : b ∷ [] ≡ x ∷ after = rw e at found in (rw e refl, rw e (cc))
-    go false e found = let no : [] ≡ x ∷ after = rw e at found in cc
-feed_found (b ∷ c ∷ cs) x after found = go (is_feed b) refl (is_feed c) refl (b == 13) refl found (feed_found (c ∷ cs) x after)
+    by_feed : (v : Bool) → is_feed b ≡ v → onward is_feed (b ∷ []) ≡ x ∷ after → (first_line (b ∷ []) ≡ unreturned (before is_feed (b ∷ []))) × (after_line (b ∷ []) ≡ after)
+    by_feed true e found = let same : b ∷ [] ≡ x ∷ after = rw e at found in (rw e refl, rw e (cc))
+    by_feed false e found = let no : [] ≡ x ∷ after = rw e at found in cc
+feed_found (b ∷ c ∷ cs) x after found = by_two_bytes (is_feed b) refl (is_feed c) refl (b == 13) refl found (feed_found (c ∷ cs) x after)
   where
-    go : (v : Bool) → is_feed b ≡ v → (w : Bool) → is_feed c ≡ w → (r : Bool) → (b == 13) ≡ r → onward is_feed (b ∷ c ∷ cs) ≡ x ∷ after
+    by_two_bytes : (v : Bool) → is_feed b ≡ v → (w : Bool) → is_feed c ≡ w → (r : Bool) → (b == 13) ≡ r → onward is_feed (b ∷ c ∷ cs) ≡ x ∷ after
         → (onward is_feed (c ∷ cs) ≡ x ∷ after → (first_line (c ∷ cs) ≡ unreturned (before is_feed (c ∷ cs))) × (after_line (c ∷ cs) ≡ after))
         → (first_line (b ∷ c ∷ cs) ≡ unreturned (before is_feed (b ∷ c ∷ cs))) × (after_line (b ∷ c ∷ cs) ≡ after)
-    go true e w f r g found ih = let same : b ∷ c ∷ cs ≡ x ∷ after = rw e at found in (rw e refl, rw e (cc))
-    go false e true f true g found ih = let same : c ∷ cs ≡ x ∷ after = rw (e, f) at found in (rw (e, f, g) refl, rw (e, f) (cc))
-    go false e true f false g found ih = let same : c ∷ cs ≡ x ∷ after = rw (e, f) at found in (rw (e, f, g) refl, rw (e, f) (cc))
-    go false e false f true g found ih = let rest = ih (rw e at found) in (rw (e, f, g) (ap (λ (l : List ℕ). b ∷ l) (rw f at (rest.0))), rw e (rest.1))
-    go false e false f false g found ih = let rest = ih (rw e at found) in (rw (e, f, g) (ap (λ (l : List ℕ). b ∷ l) (rw f at (rest.0))), rw e (rest.1))
+    by_two_bytes true e w f r g found ih = let same : b ∷ c ∷ cs ≡ x ∷ after = rw e at found in (rw e refl, rw e (cc))
+    by_two_bytes false e true f true g found ih = let same : c ∷ cs ≡ x ∷ after = rw (e, f) at found in (rw (e, f, g) refl, rw (e, f) (cc))
+    by_two_bytes false e true f false g found ih = let same : c ∷ cs ≡ x ∷ after = rw (e, f) at found in (rw (e, f, g) refl, rw (e, f) (cc))
+    by_two_bytes false e false f true g found ih = let rest = ih (rw e at found) in (rw (e, f, g) (ap (λ (l : List ℕ). b ∷ l) (rw f at (rest.0))), rw e (rest.1))
+    by_two_bytes false e false f false g found ih = let rest = ih (rw e at found) in (rw (e, f, g) (ap (λ (l : List ℕ). b ∷ l) (rw f at (rest.0))), rw e (rest.1))
 
 -- the carriage return at the end of a line
 pub unreturned_at_return : (front : List ℕ) → unreturned (front ++ (13 ∷ [])) ≡ front
@@ -221,18 +221,18 @@ unreturned_elsewhere (a ∷ c ∷ cs) b e = ap (λ (l : List ℕ). a ∷ l) (unr
 
 digits_grow : (limit value : ℕ) (bs : List ℕ) → limit ≤ value → if_below limit (digits_from value bs) ≡ None
 digits_grow limit value [] large = rw (le-ltb value limit large) refl
-digits_grow limit value (b ∷ bs) large = go (is_digit b) refl (digits_grow limit (value * 10 + (b - 48)) bs (omega arith))
+digits_grow limit value (b ∷ bs) large = by_digit (is_digit b) refl (digits_grow limit (value * 10 + (b - 48)) bs (omega arith))
   where
-    go : (v : Bool) → is_digit b ≡ v → if_below limit (digits_from (value * 10 + (b - 48)) bs) ≡ None → if_below limit (digits_from value (b ∷ bs)) ≡ None
-    go true e ih = rw e ih
-    go false e ih = rw e refl
+    by_digit : (v : Bool) → is_digit b ≡ v → if_below limit (digits_from (value * 10 + (b - 48)) bs) ≡ None → if_below limit (digits_from value (b ∷ bs)) ≡ None
+    by_digit true e ih = rw e ih
+    by_digit false e ih = rw e refl
 
 not_below : (limit n : ℕ) → if_below limit (Some n) ≡ None → limit ≤ n
-not_below limit n none = go (nat_lt n limit) refl none
+not_below limit n none = by_limit (nat_lt n limit) refl none
   where
-    go : (v : Bool) → nat_lt n limit ≡ v → if_below limit (Some n) ≡ None → limit ≤ n
-    go true e none = let no : Some n ≡ None = rw e at none in cc
-    go false e none = ltb-false n limit e
+    by_limit : (v : Bool) → nat_lt n limit ≡ v → if_below limit (Some n) ≡ None → limit ≤ n
+    by_limit true e none = let no : Some n ≡ None = rw e at none in cc
+    by_limit false e none = ltb-false n limit e
 
 -- a digit that makes the value too large
 pub digit_overflows : (limit value b : ℕ) (bs : List ℕ) → is_digit b ≡ true → if_below limit (Some (value * 10 + (b - 48))) ≡ None → if_below limit (digits_from value (b ∷ bs)) ≡ None
@@ -292,19 +292,19 @@ lines_are_cut (b ∷ bs) some = lines_cut b bs
 
 after_is_within : (text : List ℕ) → length (after_line text) ≤ length text
 after_is_within [] = omega arith
-after_is_within (b ∷ bs) = go (is_feed b) refl (after_is_within bs)
+after_is_within (b ∷ bs) = by_feed (is_feed b) refl (after_is_within bs)
   where
-    go : (v : Bool) → is_feed b ≡ v → length (after_line bs) ≤ length bs → length (after_line (b ∷ bs)) ≤ length (b ∷ bs)
-    go true e ih = rw e (omega arith)
-    go false e ih = rw e (omega arith)
+    by_feed : (v : Bool) → is_feed b ≡ v → length (after_line bs) ≤ length bs → length (after_line (b ∷ bs)) ≤ length (b ∷ bs)
+    by_feed true e ih = rw e (omega arith)
+    by_feed false e ih = rw e (omega arith)
 
 pub after_is_shorter : (text : List ℕ) → 0 < length text → length (after_line text) < length text
 after_is_shorter [] some = absurd (omega arith)
-after_is_shorter (b ∷ bs) some = go (is_feed b) refl (after_is_within bs)
+after_is_shorter (b ∷ bs) some = by_feed (is_feed b) refl (after_is_within bs)
   where
-    go : (v : Bool) → is_feed b ≡ v → length (after_line bs) ≤ length bs → length (after_line (b ∷ bs)) < length (b ∷ bs)
-    go true e within = rw e (omega arith)
-    go false e within = rw e (omega arith)
+    by_feed : (v : Bool) → is_feed b ≡ v → length (after_line bs) ≤ length bs → length (after_line (b ∷ bs)) < length (b ∷ bs)
+    by_feed true e within = rw e (omega arith)
+    by_feed false e within = rw e (omega arith)
 
 -- a line without a fault
 pub line_is_next : (so_far : List Numbered) (number : ℕ) (bytes : List ℕ) (rest : List (List ℕ)) (what : Line) → numbered_line number bytes ≡ Ok what →
@@ -319,11 +319,11 @@ fault_is_first so_far number bytes rest text (fault.Line at why) bad same = rw (
 fault_is_first so_far number bytes rest text fault.Memory bad same = tt
 
 pub lines_are_read : (text : List ℕ) (read : Result (List Numbered) ScriptFault) → length text ≤ 1048576 → AreLines text read → IsReading text read
-lines_are_read text read small lined = go (nat_lt 1048576 (length text)) refl read lined
+lines_are_read text read small lined = by_length (nat_lt 1048576 (length text)) refl read lined
   where
-    go : (v : Bool) → nat_lt 1048576 (length text) ≡ v → (read : Result (List Numbered) ScriptFault) → AreLines text read → IsReading text read
-    go true e read lined = absurd (omega (arith, ltb-true 1048576 (length text) e))
-    go false e (Ok script) lined = rw e lined
-    go false e (Err fault.TooLong) lined = absurd lined
-    go false e (Err (fault.Line number why)) lined = rw e lined
-    go false e (Err fault.Memory) lined = tt
+    by_length : (v : Bool) → nat_lt 1048576 (length text) ≡ v → (read : Result (List Numbered) ScriptFault) → AreLines text read → IsReading text read
+    by_length true e read lined = absurd (omega (arith, ltb-true 1048576 (length text) e))
+    by_length false e (Ok script) lined = rw e lined
+    by_length false e (Err fault.TooLong) lined = absurd lined
+    by_length false e (Err (fault.Line number why)) lined = rw e lined
+    by_length false e (Err fault.Memory) lined = tt

@@ -16,7 +16,7 @@ pub begins : (below : Result Below TranscriptFault) → told_with [] (told_line 
 begins (Ok below) = refl
 begins (Err why) = refl
 
--- one line more
+-- one more line
 pub goes_on : (front front' : List ToldText) (last last' : ToldText) (number : ℕ) (what : LineText) (below : Result Below TranscriptFault)
     → ((b : Below) → front' ++ with_below last' b ≡ front ++ with_below last (with_above number what b))
     → told_with front' last' below ≡ told_with front last (read_above number (Ok what) below)

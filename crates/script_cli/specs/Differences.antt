@@ -4,7 +4,7 @@ use Rattle.std.specs.Str.{bytes_eq}
 use Rattle.script_cli.specs.Transcripts.{AnswerText, ToldText}
 use Rattle.script_cli.specs.declared.transcripts.difference.Difference.{Difference}
 
--- a difference: the number of a line, what stands there, and what was printed
+-- a difference: the number of a line, what is there, and what was printed
 pub record DifferenceText : Type 0 where
   pub number : ℕ
   pub wanted : Option (List ℕ)
@@ -42,7 +42,7 @@ abbrev pub common_front : List ℕ → List ℕ → ℕ
 common_front (a ∷ as') (b ∷ bs) = if a == b then common_front as' bs + 1 else 0
 common_front as' bs = 0
 
--- the column of its line where a difference begins; an answer stands behind two bytes
+-- the column of its line where a difference begins; an answer follows two bytes
 abbrev pub column_of : Option (List ℕ) → Option (List ℕ) → ℕ
 column_of (Some wanted) (Some came) = 3 + common_front wanted came
 column_of wanted came = 1

@@ -17,7 +17,7 @@ fault_of_opening opening.BadConfig = run.BadConfig
 fault_of_opening (opening.NoPages need free) = run.NoPages need free
 fault_of_opening opening.Memory = run.Memory
 
--- 1 where the script is at fault, 2 where the image or the opening is, 3 where something was wanting meanwhile
+-- 1 where the script is at fault, 2 where the image or the opening is, 3 where something was missing meanwhile
 abbrev pub status_of_run : RunFault → ℕ
 status_of_run (run.Line number why) = 1
 status_of_run run.TooLong = 1

@@ -1,4 +1,4 @@
--- What a line of a script is, or its first fault. A word that is wanted is taken from the words that are left; what a definition of such
+-- What a line of a script is, or its first fault. A required word is taken from the words that are left; what a definition of such
 -- a word gives is the word's value, and the words after it.
 use Rattle.std.specs.{List.list_any, Str.bytes_eq}
 use Rattle.std.specs.Prelude.{ℕ, ◌≡◌, ◌^◌, ◌==◌, ◌||◌, nat_lt, nat_le, codes, Bool, true, false, Option, Some, None, Result, Ok, Err, List, [], ◌∷◌, ◌++◌, length, if◌then◌else◌}
@@ -65,7 +65,7 @@ nsid_words ws = do
   named ← named_word (codes "nsid") ws
   if named.0 then namespace_word named.1 else Ok (1, named.1)
 
--- a block size of so many bytes
+-- a block size of this many bytes
 abbrev pub size_word : Words → Result (BlockSize × Words) LineFault
 size_word ws = do
   n ← number_word (2 ^ 64) ws
@@ -88,7 +88,7 @@ vector_words ws = do
   named ← named_word (codes "vector") ws
   if named.0 then vector_word named.1 else Ok (None, named.1)
 
--- a word that stands behind the pieces
+-- a word that comes after the pieces
 abbrev pub begins_option : List ℕ → Bool
 begins_option word = bytes_eq word (codes "nsid") || bytes_eq word (codes "block_size") || bytes_eq word (codes "fua") || bytes_eq word (codes "lr")
 
@@ -100,7 +100,7 @@ abbrev pub with_piece : List Piece → (List Piece → Result (List Piece × Wor
 with_piece so_far rest None = Err BadPiece
 with_piece so_far rest (Some p) = rest (so_far ++ (p ∷ []))
 
--- the pieces that words go on to, from the pieces so far, and the words behind the pieces
+-- the pieces that words go on to, from the pieces so far, and the words after the pieces
 unfoldable pub pieces_from : List Piece → Words → Result (List Piece × Words) LineFault
 pieces_from so_far [] = Ok (so_far, [])
 pieces_from so_far (word ∷ rest) =
@@ -178,7 +178,7 @@ abbrev pub begins_with_hash : List ℕ → Bool
 begins_with_hash [] = false
 begins_with_hash (b ∷ bs) = b == 35
 
--- a line that begins with this word does nothing: a comment, or an answer, as one stands in a transcript
+-- a line that begins with this word does nothing: a comment, or an answer, as in a transcript
 abbrev pub begins_comment : List ℕ → Bool
 begins_comment word = begins_with_hash word || bytes_eq word (codes ">")
 

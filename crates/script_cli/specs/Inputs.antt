@@ -13,7 +13,7 @@ IsTold (Some told) bytes = bytes ≡ told
 abbrev pub AreFirstOf : ℕ → Option (List ℕ) → List ℕ → Type 0
 AreFirstOf limit told bytes = (all : List ℕ) × IsTold told all × (bytes ≡ take (limit + 1) all)
 
--- a writer's bytes grow by bytes of which something holds
+-- a writer's bytes grow by bytes that meet a condition
 abbrev pub Gains : Option (List ℕ) → Option (List ℕ) → (List ℕ → Type 0) → Type 0
 Gains before after Holds = (bytes : List ℕ) × Holds bytes × Appends before after bytes
 

@@ -18,12 +18,12 @@ abbrev pub lines : List ℕ → List (List ℕ)
 lines [] = []
 lines (b ∷ bs) = if is_feed b then [] ∷ lines bs else if is_dropped b bs then lines bs else onto_first b (lines bs)
 
--- what stands before the first byte that passes a test, or all where none does
+-- what is before the first byte that passes a test, or all where none does
 abbrev pub before : (ℕ → Bool) → List ℕ → List ℕ
 before p [] = []
 before p (b ∷ bs) = if p b then [] else b ∷ before p bs
 
--- the first byte that passes a test and what stands after it, or nothing where none does
+-- the first byte that passes a test and what follows it, or nothing where none does
 abbrev pub onward : (ℕ → Bool) → List ℕ → List ℕ
 onward p [] = []
 onward p (b ∷ bs) = if p b then b ∷ bs else onward p bs
@@ -52,7 +52,7 @@ words line = parts_between is_blank line
 abbrev pub is_solid : ℕ → Bool
 is_solid b = not (is_blank b)
 
--- the first line of a text that is not empty, and what stands after its line feed
+-- the first line of a text that is not empty, and what follows its line feed
 abbrev pub first_line : List ℕ → List ℕ
 first_line [] = []
 first_line (b ∷ bs) = if is_feed b then [] else if is_dropped b bs then [] else b ∷ first_line bs

@@ -23,12 +23,12 @@ once None (Some number) = Some (Some number)
 once None None = None
 once (Some before) number = None
 
--- a number of submitters that there may be
+-- an allowed number of submitters
 abbrev pub few : Option ℕ → Option ℕ
 few None = None
 few (Some number) = if nat_le 1 number && nat_le number 16 then Some number else None
 
--- a number of submitters, if there is one, is one that there may be
+-- a number of submitters, if there is one, is an allowed one
 abbrev pub AreFew : Option ℕ → Type 0
 AreFew None = Unit {0}
 AreFew (Some number) = (1 ≤ number) × (number ≤ 16)
@@ -38,7 +38,7 @@ abbrev pub has_submitters : ScriptKind → Bool
 has_submitters Steps = false
 has_submitters Jobs = true
 
--- one option more: its name, and its number if that is one
+-- one more option: its name, and its number if that is one
 abbrev pub with_option : ScriptKind → SaidOptions → List ℕ → Option ℕ → Option SaidOptions
 with_option kind said name number =
     if bytes_eq name (codes "pages") then option_map (λ n. record said { pages = n }) (once said.pages number)
@@ -49,19 +49,19 @@ with_option kind said name number =
     else if has_submitters kind && bytes_eq name (codes "submitters") then option_map (λ n. record said { submitters = n }) (once said.submitters (few number))
     else None
 
--- a word that begins an option: its number is behind the equals sign, and where there is none it is the next word
+-- a word that begins an option: its number comes after the equals sign, and where there is none it is the next word
 abbrev pub with_word : ScriptKind → SaidOptions → List ℕ → List ℕ → (Option (List ℕ) → SaidOptions → Option SaidOptions) → Option SaidOptions
 with_word kind said word [] rest = rest (Some (unhyphened word)) said
 with_word kind said word (equals ∷ digits) rest = option_and_then (rest None) (with_option kind said (unhyphened (before is_equals word)) (number32 digits))
 
--- what words say, after what was said, where the number of an option is perhaps wanted
+-- what words say, after what was said, where the number of an option may be wanted
 abbrev pub said_from : ScriptKind → Option (List ℕ) → SaidOptions → List (List ℕ) → Option SaidOptions
 said_from kind None said [] = Some said
 said_from kind (Some name) said [] = None
 said_from kind None said (word ∷ rest) = with_word kind said word (onward is_equals word) (λ name more. said_from kind name more rest)
 said_from kind (Some name) said (word ∷ rest) = option_and_then (λ more. said_from kind None more rest) (with_option kind said name (number32 word))
 
--- what a line says: nothing, unless it begins with `# options:`, or that its words are no options
+-- what a line says: nothing, unless it begins with `# options:`, or that its words are not options
 abbrev pub said_on : ScriptKind → List ℕ → Option SaidOptions
 said_on kind line = if begins_with (codes "# options:") line then said_from kind None nothing_said (words (drop 10 line)) else Some nothing_said
 

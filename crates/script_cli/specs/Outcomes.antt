@@ -1,4 +1,4 @@
--- How a transcript came out.
+-- How a transcript turned out.
 use Rattle.std.specs.Prelude.{◌≡◌, ◌<◌, ◌≤◌, ◌+◌, ◌==◌, ℕ, Bool, true, false, IsUtf8, Option, Some, None, List, [], ◌∷◌, length, max, min, take, if◌then◌else◌}
 use Rattle.std.specs.Str.Lossy.{utf8_valid_len}
 use Rattle.script_cli.specs.{Differences.{difference_text, first_difference, DifferenceText}, Lines.{is_feed, lines}, Transcripts.ToldText}
@@ -12,7 +12,7 @@ abbrev pub feeds_in : List ℕ → ℕ
 feeds_in [] = 0
 feeds_in (b ∷ bs) = if is_feed b then feeds_in bs + 1 else feeds_in bs
 
--- the number of the line on which the first byte stands that is no text
+-- the number of the line with the first byte that is not text
 abbrev pub bad_line : List ℕ → ℕ
 bad_line bytes = min (feeds_in (take (utf8_valid_len bytes) bytes) + 1) 4294967295
 

@@ -26,7 +26,7 @@ touched_text (page ∷ pages) = decimal page ++ more_pages pages
 abbrev pub run_text : ℕ → ℕ → List ℕ
 run_text byte count = digit_glyph true (byte / 16) ∷ digit_glyph true (byte % 16) ∷ (codes "*" ++ decimal count)
 
--- the longest runs of a byte that stood so often so far and of the bytes after it, joined by commas
+-- the longest runs of a byte that came this often so far and of the bytes after it, joined by commas
 abbrev pub runs_text : ℕ → ℕ → List ℕ → List ℕ
 runs_text byte count [] = run_text byte count
 runs_text byte count (next ∷ rest) =
@@ -80,7 +80,7 @@ refusal_name refusal.Nothing = codes "Nothing"
 refusal_name refusal.Walking = codes "Walking"
 refusal_name refusal.Waits = codes "Waits"
 
--- what stands after the name of a refusal
+-- what follows the name of a refusal
 abbrev pub refusal_detail : Refusal → List ℕ
 refusal_detail (refusal.Bad why) = codes " " ++ request_fault_name why
 refusal_detail (refusal.NoPages need free) = codes " need " ++ (decimal need ++ (codes " free " ++ decimal free))

@@ -23,11 +23,11 @@ AreFitLines script = AllByRecursion (λ numbered. IsFitLine numbered.line) scrip
 
 -- What is printed
 
--- the owners of the first pages, in the pages' order: each page stands in a claim of its owner
+-- the owners of the first pages, in the pages' order: each page is in a claim of its owner
 abbrev pub AreFirstOwners : State → List Owner → Type 0
 AreFirstOwners s owners = (p : ℕ) (owner : Owner) → owner_at owners p ≡ Some owner → Contains (claims_of s.host) (p, owner)
 
--- so of all pages
+-- the same of all pages
 pub record AreOwners (s : State) (owners : List Owner) : Type 0 where
   pub all : length owners ≡ length s.memory
   pub claim : AreFirstOwners s owners
@@ -46,7 +46,7 @@ PrintsLine t number (line.Step what) text unwell new = (answer : Reply) × Does 
 PrintsLine t number line.Owners text unwell new = (owners : List Owner) × AreOwners t.world owners × (text ≡ owners_text owners) × (unwell ≡ 0) × (new ≡ t)
 PrintsLine t number line.Nothing text unwell new = (text ≡ []) × (unwell ≡ 0) × (new ≡ t)
 
--- so of lines, each over what the one before left
+-- the same of lines, each over what the one before left
 abbrev pub Prints : Table → List Numbered → List ℕ → ℕ → Table → Type 0
 Prints t [] text unwell new = (text ≡ []) × (unwell ≡ 0) × (new ≡ t)
 Prints t (first ∷ rest) text unwell new =
@@ -62,18 +62,18 @@ last_line (next ∷ rest) t = []
 abbrev pub IsRunText : Table → List Numbered → List ℕ → Type 0
 IsRunText t script text = (last : Table) × (said : List ℕ) × (unwell : ℕ) × Prints t script said unwell last × (text ≡ said ++ last_line [] last)
 
--- the same of a run that leaves this table, so many of whose answers, as far as 64 bits count, are not well
+-- the same of a run that leaves this table and has this many answers, as far as 64 bits count, that are not well
 abbrev pub IsRunTo : Table → ℕ → Table → List Numbered → List ℕ → Type 0
 IsRunTo last counted t script text =
     (said : List ℕ) × (unwell : ℕ) × Prints t script said unwell last × (text ≡ said ++ last_line [] last) × (counted ≡ min unwell 18446744073709551615)
 
--- what stands where a run was cut off, told by the lines that were done: the front of what these print, with the counts where they are all
+-- what is written where a run was cut off, told by the lines that were done: a prefix of what these print, with the counts where they are all
 abbrev pub IsFrontOfFirst : Table → List Numbered → List ℕ → Type 0
 IsFrontOfFirst t script text =
     (done : List Numbered) × (left : List Numbered) × (last : Table) × (said : List ℕ) × (unwell : ℕ)
     × (script ≡ done ++ left) × Prints t done said unwell last × IsFront text (said ++ last_line left last)
 
--- what was written of a run that was cut off: the front of the text of a run of the whole script
+-- what was written of a run that was cut off: a prefix of the text of a run of the whole script
 abbrev pub IsCutText : Table → List Numbered → List ℕ → Type 0
 IsCutText t script text = (whole : List ℕ) × IsRunText t script whole × IsFront text whole
 
@@ -105,7 +105,7 @@ IsNoOpening config other = ⊥
 abbrev pub IsNotOpened : Option (List ℕ) → Config → OpenRefusal → Type 0
 IsNotOpened told config why = (script : List Numbered) × HasScript told script × (refusal_of_config config ≡ Some why)
 
--- a reader has a script without faults, the world opens, and a text of which something holds is written
+-- a reader has a script without faults, the world opens, and a text that meets a condition is written
 abbrev pub Writes : Option (List ℕ) → Config → List ℕ → Option (List ℕ) → Option (List ℕ) → (Table → List Numbered → List ℕ → Type 0) → Type 0
 Writes told config image before after Holds =
     (script : List Numbered) × HasScript told script × (refusal_of_config config ≡ None) × Gains before after (Holds (table (opening_of config image)) script)

@@ -31,12 +31,12 @@ told_text told = record { number = told.number; line = told.line; answers = map 
 
 -- Lines
 
--- what stands behind a blank, if a text begins with one
+-- what follows a blank, if a text begins with one
 abbrev pub behind_blank : List ℕ → Option (List ℕ)
 behind_blank [] = None
 behind_blank (b ∷ bs) = if is_blank b then Some bs else None
 
--- the text of an answer, by what stands behind its sign: nothing, or a blank and the text
+-- the text of an answer, by what follows its sign: nothing, or a blank and the text
 abbrev pub behind_sign : List ℕ → Option (List ℕ)
 behind_sign [] = Some []
 behind_sign (b ∷ bs) = behind_blank (b ∷ bs)

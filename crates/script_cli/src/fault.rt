@@ -19,22 +19,22 @@ pub enum LineFault {
     /// It has a byte of 128 or more.
     #[error("NotAscii")]
     NotAscii,
-    /// Its first word is no verb.
+    /// Its first word is not a verb.
     #[error("UnknownVerb")]
     UnknownVerb,
     /// It lacks a word.
     #[error("MissingWord")]
     MissingWord,
-    /// A word is no kind of command.
+    /// A word is not a kind of command.
     #[error("BadKind")]
     BadKind,
-    /// A word is no number, or one that is too large.
+    /// A word is not a number, or is too large.
     #[error("BadNumber")]
     BadNumber,
-    /// A word is no bytes in hexadecimal digits, or not the 16 that are wanted.
+    /// A word is not bytes in hexadecimal digits, or not the 16 that are expected.
     #[error("BadHex")]
     BadHex,
-    /// A word is no piece.
+    /// A word is not a piece.
     #[error("BadPiece")]
     BadPiece,
     /// A word is left over.
@@ -97,7 +97,7 @@ pub enum ScriptFault {
 /// Why the book of a run of threads was not closed.
 #[derive(Clone, Copy, Debug, PartialEq, Eq, Error)]
 pub enum NotClosed {
-    /// A submission stands in no receipt.
+    /// A submission is in no receipt.
     #[error("Missing")]
     Missing,
     /// A seat was not handed in.

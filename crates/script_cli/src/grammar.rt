@@ -17,13 +17,13 @@ use step_core::Step;
 /// The most bytes of a line.
 const MAX_LINE: usize = 16_384;
 
-/// What an answer stands behind.
+/// The word that an answer follows.
 const ANSWER: &str = ">";
 
-/// The word behind which the namespace of a request stands.
+/// The word before the namespace of a request.
 pub const NSID: &str = "nsid";
 
-/// The word behind which the block size of a request stands.
+/// The word before the block size of a request.
 pub const BLOCK_SIZE: &str = "block_size";
 
 /// The word of Force Unit Access.
@@ -32,10 +32,10 @@ pub const FUA: &str = "fua";
 /// The word of Limited Retry.
 pub const LR: &str = "lr";
 
-/// The word behind which the vector of a completion queue's interrupts stands.
+/// The word before the vector of a completion queue's interrupts.
 pub const VECTOR: &str = "vector";
 
-/// Whether a word stands behind the pieces of a request.
+/// Whether a word comes after the pieces of a request.
 pub fn begins_option(word: &[u8]) -> bool
     ensures { result ≡ spec_begins_option word.now }
 {
@@ -199,7 +199,7 @@ fn begins_with_hash(word: &[u8]) -> bool
     }
 }
 
-/// Whether a line that begins with this word does nothing: a comment, or `>`, behind which an answer stands in a transcript.
+/// Whether a line that begins with this word does nothing: a comment, or `>`, which an answer follows in a transcript.
 pub fn begins_comment(word: &[u8]) -> bool
     ensures { result ≡ spec_begins_comment word.now }
 {

@@ -22,7 +22,7 @@ pub enum ImageFault {
     /// A read failed.
     #[error("image: unreadable")]
     Unreadable,
-    /// The bytes are no 1 to 65,536 whole blocks.
+    /// The bytes are not 1 to 65,536 whole blocks.
     #[error("image: BadLength")]
     BadLength,
     /// Memory was refused.
@@ -57,7 +57,7 @@ impl From<AllocError> for ReadFault {
     }
 }
 
-/// Reads some bytes behind those so far, this many at most, and answers how many; none only where the reader has none left.
+/// Reads some bytes after those so far, this many at most, and answers how many; none only where the reader has none left.
 fn read_some<R: Read>(reader: &mut R, most: usize, bytes: &mut Vec<u8>) -> Result<usize, ReadFault>
     requires { 0 < most }
     ensures bytes { IfOk result (λ n. (new : List ℕ) × (bytes.new.items ≡ bytes.old.items ++ new) × (length new ≡ n) × Consumes (R.remaining reader.old) (R.remaining reader.new) new) }
@@ -98,7 +98,7 @@ pub fn read_first<R: Read>(
 ///
 /// # Errors
 ///
-/// `Unreadable` where a read fails, whatever was read before. `BadLength` where the bytes are no 1 to 65,536 whole blocks; a reader
+/// `Unreadable` where a read fails, whatever was read before. `BadLength` where the bytes are not 1 to 65,536 whole blocks; a reader
 /// that gave 33,554,433 bytes is not asked again. `Memory` where memory is refused.
 pub fn read_image<R: Read>(alloc: Global, reader: &mut R) -> Result<Image, ImageFault>
     ensures image { IfOk result (λ image. IsTold (R.remaining reader.old) image) }

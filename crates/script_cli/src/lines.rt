@@ -4,7 +4,7 @@ ghost use Rattle.std.specs.Prelude.{◌≡◌, ◌≤◌, length};
 ghost use Rattle.std.specs.List.{position_or_len};
 ghost use Rattle.script_cli.specs.Lines.{is_feed, first_line, after_line, unreturned};
 
-/// Where the first line feed stands; the length of the text if there is none.
+/// Where the first line feed is; the length of the text if there is none.
 fn first_feed(text: &[u8]) -> usize
     ensures place { result ≡ position_or_len is_feed text.now }
     ensures most { result ≤ length text.now }
@@ -29,7 +29,7 @@ fn without_return(line: &[u8]) -> &[u8]
     line
 }
 
-/// The first line, and what stands after its line feed.
+/// The first line, and what follows its line feed.
 pub fn split_line(text: &[u8]) -> (&[u8], &[u8])
     ensures line { result.0.now ≡ first_line text.now }
     ensures rest { result.1.now ≡ after_line text.now }

@@ -17,7 +17,7 @@ pub(crate) fn put_number(out: &mut String, n: u64) -> Result<(), AllocError>
     out.push(char::from(b'0' + (n % 10) as u8))
 }
 
-/// Puts a number behind the word for it.
+/// Puts a number after the word for it.
 pub(crate) fn put_field(out: &mut String, word: &str, n: u64) -> Result<(), AllocError>
     ensures { OnOk result (string_bytes out.new ≡ string_bytes out.old ++ (word.now ++ decimal n)) }
 {

@@ -95,11 +95,11 @@ fn put_line(out: &mut String, first: usize, last: usize, owner: Owner) -> Result
     out.push_str("\n")
 }
 
-/// Puts the lines of the owners of all pages behind what stands in a text: one line for each longest run of pages with one owner.
+/// Appends the lines of the owners of all pages to a text: one line for each longest run of pages with one owner.
 ///
 /// # Errors
 ///
-/// Where memory is refused. A part of the lines may then stand in the text.
+/// Where memory is refused. A part of the lines may then be in the text.
 pub fn append_owners(out: &mut String, owners: &[Owner]) -> Result<(), AllocError>
     requires { length owners.now ≤ 65536 }
     ensures { OnOk result (string_bytes out.new ≡ string_bytes out.old ++ owners_text owners.now) }
@@ -122,11 +122,11 @@ pub fn append_owners(out: &mut String, owners: &[Owner]) -> Result<(), AllocErro
     put_line(out, first, last, owner)
 }
 
-/// Puts the last line of every run behind what stands in a text.
+/// Appends the last line of every run to a text.
 ///
 /// # Errors
 ///
-/// Where memory is refused. A part of the line may then stand in the text.
+/// Where memory is refused. A part of the line may then be in the text.
 pub fn append_counts(out: &mut String, counts: Counts) -> Result<(), AllocError>
     ensures { OnOk result (string_bytes out.new ≡ string_bytes out.old ++ counts_line counts) }
 {

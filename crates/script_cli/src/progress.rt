@@ -8,7 +8,7 @@ use std::alloc::{AllocError, Global};
 use std::rt::Clock;
 use std::time::{Duration, Instant};
 
-/// How long a line stands before another takes its place, in nanoseconds.
+/// How long a line stays before another takes its place, in nanoseconds.
 const EVERY: u64 = 200_000_000;
 
 /// The nanoseconds of a duration.
@@ -21,7 +21,7 @@ pub fn nanos_of(duration: Duration) -> u64
         .saturating_add(u64::from(duration.subsec_nanos()))
 }
 
-/// How many there are in a second, of so many in so many nanoseconds.
+/// How many there are in a second, given this many in this many nanoseconds.
 pub fn each_second(many: u64, nanos: u64) -> u64
     ensures { result ≡ min (many * 1000000) 18446744073709551615 / max (nanos / 1000) 1 }
 {

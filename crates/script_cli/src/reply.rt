@@ -15,7 +15,7 @@ use page_memory::PageNo;
 use std::alloc::AllocError;
 use step_core::{Reaped, Refusal, RejectedFor, Reply, Touched};
 
-/// Puts further pages, each behind a comma.
+/// Puts further pages, each after a comma.
 fn put_more_pages(out: &mut String, pages: &[PageNo]) -> Result<(), AllocError>
     ensures { OnOk result (string_bytes out.new ≡ string_bytes out.old ++ more_pages pages.now) }
 {
@@ -53,7 +53,7 @@ fn are_all(byte: u8, eight: [u8; 8]) -> bool
     u64::from_le_bytes(eight) == u64::from_le_bytes([byte; 8])
 }
 
-/// What stands behind the first eight bytes, if those are all this one.
+/// What follows the first eight bytes, if those are all this one.
 fn behind_eight(byte: u8, bytes: &[u8]) -> Option<&[u8]>
     ensures { IfSome result (λ behind. bytes.now ≡ replicate 8 byte ++ behind.now) }
 {
@@ -162,7 +162,7 @@ pub fn refusal_name(why: Refusal) -> &'static str
     }
 }
 
-/// Puts what stands after the name of a refusal.
+/// Puts what follows the name of a refusal.
 fn put_refusal_detail(out: &mut String, why: Refusal) -> Result<(), AllocError>
     ensures { OnOk result (string_bytes out.new ≡ string_bytes out.old ++ refusal_detail why) }
 {
@@ -186,7 +186,7 @@ fn put_refusal(out: &mut String, why: Refusal) -> Result<(), AllocError>
     put_refusal_detail(out, why)
 }
 
-/// Puts the status that a command ended with, behind its identifier.
+/// Puts the status that a command ended with, after its identifier.
 fn put_done(out: &mut String, cid: u16, status: Status) -> Result<(), AllocError>
     ensures { OnOk result (string_bytes out.new ≡ string_bytes out.old ++ reaped_text (Done cid status)) }
 {
@@ -223,7 +223,7 @@ fn put_walk(out: &mut String, state: WalkState) -> Result<(), AllocError>
     }
 }
 
-/// Puts the pages that a step touched, behind the word for them.
+/// Puts the pages that a step touched, after the word for them.
 fn put_touched_word(out: &mut String, touched: &Touched) -> Result<(), AllocError>
     ensures { OnOk result (string_bytes out.new ≡ string_bytes out.old ++ (codes " touched " ++ touched_text touched.now)) }
 {
@@ -310,11 +310,11 @@ fn put_answer(out: &mut String, reply: &Reply) -> Result<(), AllocError>
     }
 }
 
-/// Puts the line of a step behind what stands in a text: the number of its line, its verb and its answer.
+/// Appends the line of a step to a text: the number of its line, its verb and its answer.
 ///
 /// # Errors
 ///
-/// Where memory is refused. A part of the line may then stand in the text.
+/// Where memory is refused. A part of the line may then be in the text.
 pub fn append_reply(
     out: &mut String,
     number: u32,

@@ -78,7 +78,7 @@ pub fn play_step(
     Ok(reply)
 }
 
-/// The owners of so many pages of a bench, the first ones, in their order.
+/// The owners of the first pages of a bench, this many, in their order.
 pub fn first_owners(alloc: Global, bench: &Bench, pages: u32) -> Result<Vec<Owner>, AllocError>
     requires { pages ≤ length bench.now.table.world.memory }
     ensures many { IfOk result (λ owners. length owners.items ≡ pages) }
@@ -170,7 +170,7 @@ pub struct Played {
 /// # Errors
 ///
 /// A fault of the script, and then one of the opening; nothing is written then. [`RunFault::Memory`] where memory is refused, and
-/// not inside a step; [`RunFault::OutputFailed`] where a write or the flush fails. What was written by then is the front of a run's text.
+/// not inside a step; [`RunFault::OutputFailed`] where a write or the flush fails. What was written by then is a prefix of a run's text.
 pub fn play_steps<R: Read, W: Write>(
     alloc: Global,
     config: Config,

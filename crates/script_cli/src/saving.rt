@@ -1,4 +1,4 @@
-//! Files that are written whole, or not at all; and what is no file, which is written in place.
+//! Files that are written whole, or not at all; and what is not a file, which is written in place.
 
 ghost use Rattle.std.specs.Prelude.{◌≡◌, ◌&&◌, ◌||◌, ◌*◌, bit_and, bit_or, codes, false, true};
 ghost use Rattle.std.specs.Str.{bytes_eq};
@@ -17,7 +17,7 @@ const MAX_LINKS: usize = 40;
 const MAX_NAMES: usize = 1000;
 /// What a new file lets its user alone do, until it has the rights of the old one.
 const OWN_ALONE: u32 = 0o600;
-/// What a new file in no other's place lets everybody do, as far as the user's mask allows.
+/// What a new file that replaces none lets everybody do, as far as the user's mask allows.
 const USUAL: u32 = 0o666;
 
 /// Writes bytes where a path says: `-` and `/dev/stdout` are standard output, all else as in [`replace_file`].
@@ -45,8 +45,9 @@ fn is_standard_output(path: &str) -> bool
 
 /// Writes bytes into what a path names, and follows links.
 ///
-/// A file is replaced by a new one that is written beside it, `PATH.new` or with a number behind it, and has its rights. Where this fails, the old file is as
-/// it was. What is no file, a device or a pipe, is written in place, and an open file of a process (`/dev/stderr`, `/dev/fd/3`) behind what it has.
+/// A file is replaced by a new one that is written beside it, `PATH.new` or with a number after it, and has its rights. Where this fails, the old
+/// file is as it was. What is not a file, a device or a pipe, is written in place, and an open file of a process (`/dev/stderr`, `/dev/fd/3`) after
+/// what it has.
 ///
 /// # Errors
 ///
@@ -92,7 +93,7 @@ fn target_of<R: AllocGlobal + Files>(rt: &R, path: &str) -> io::Result<Option<Pa
     Err(io::Error::from(ErrorKind::FilesystemLoop))
 }
 
-/// Whether a path is a link; one that names nothing is none.
+/// Whether a path is a link; one that names nothing is not one.
 fn is_link<R: Files>(rt: &R, path: &str) -> io::Result<bool> {
     match fs::symlink_metadata(rt, path) {
         Ok(about) => Ok(about.is_symlink()),
@@ -121,7 +122,7 @@ fn put_in_place<R: AllocGlobal + Files>(
     written
 }
 
-/// Makes a new file beside a path, under the first name that nothing has: what a run left that was ended early is not in the way.
+/// Makes a new file beside a path, under the first name that nothing has: what a run that ended early left is not in the way.
 fn open_beside<R: AllocGlobal + Files>(
     rt: &R,
     path: &str,

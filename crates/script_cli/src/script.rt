@@ -82,7 +82,7 @@ fn numbered_line(alloc: Global, number: u32, bytes: &[u8]) -> Result<Line, Scrip
     }
 }
 
-/// Puts a line behind those so far, if it does something.
+/// Adds a line after those so far, if it does something.
 fn push_line(lines: &mut Vec<Numbered>, number: u32, line: Line) -> Result<(), AllocError>
     ensures { OnOk result (lines.new.items ≡ with_line lines.old.items number line) }
 {
@@ -127,7 +127,7 @@ fn read_lines(alloc: Global, text: &[u8]) -> Result<Script, ScriptFault>
 ///
 /// # Errors
 ///
-/// [`ScriptFault::TooLong`] before any line is looked at, else the first fault of the first line that has one; and
+/// [`ScriptFault::TooLong`] before any line is read, else the first fault of the first line that has one; and
 /// [`ScriptFault::Memory`] where memory is refused.
 #[tactic(auto, using(crate::proofs::Texts::lines_are_read))]
 pub fn read_script(alloc: Global, text: &[u8]) -> Result<Script, ScriptFault>

@@ -144,7 +144,7 @@ pub(crate) fn kind(word: &[u8]) -> Option<Kind>
     }
 }
 
-/// Where the first byte of this value stands; the length of the text if there is none.
+/// Where the first byte of this value is; the length of the text if there is none.
 pub(crate) fn first_place(text: &[u8], byte: u8) -> usize
     ensures place { result ≡ position_or_len (λ b. b == byte) text.now }
     ensures most { result ≤ length text.now }

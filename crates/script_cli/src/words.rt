@@ -31,14 +31,14 @@ impl<'a> Model for Words<'a> {
     ghost view = { λ w. words w.rest.now };
 }
 
-/// Whether a byte stands between words.
+/// Whether a byte separates words.
 fn is_blank(byte: u8) -> bool
     ensures { result ≡ spec_is_blank byte }
 {
     byte == b' ' || byte == b'\t'
 }
 
-/// Where the first blank stands; the length of the text if there is none.
+/// Where the first blank is; the length of the text if there is none.
 fn first_blank(text: &[u8]) -> usize
     ensures place { result ≡ position_or_len spec_is_blank text.now }
     ensures most { result ≤ length text.now }
@@ -64,7 +64,7 @@ fn leading_blanks(text: &[u8]) -> usize
     text.len()
 }
 
-/// The first word of a line, and what stands after it.
+/// The first word of a line, and what follows it.
 fn split_word(line: &[u8]) -> Option<(&[u8], &[u8])>
     ensures { MatchOption result (words line.now ≡ []) (λ r. words line.now ≡ r.0.now ∷ words r.1.now) }
 {
@@ -92,7 +92,7 @@ impl<'a> Words<'a> {
         Some(word)
     }
 
-    /// Takes the next word, if it does not stand behind the pieces of a request.
+    /// Takes the next word, if it does not come after the pieces of a request.
     pub(crate) fn take_before_options(&mut self) -> Option<&'a [u8]>
         ensures { MatchOption result ((self.new ≡ self.old) × (ends_pieces self.old ≡ true)) (λ word. (self.old ≡ word.now ∷ self.new) × (spec_begins_option word.now ≡ false)) }
     {
@@ -120,7 +120,7 @@ impl<'a> Words<'a> {
 }
 
 impl<'a> Words<'a> {
-    /// Takes a word that is wanted.
+    /// Takes a required word.
     fn wanted(&mut self) -> Result<&'a [u8], LineFault>
         ensures { MatchResult result (λ word. self.old ≡ word.now ∷ self.new) (λ fault. (self.old ≡ []) × (fault ≡ MissingWord)) }
     {
@@ -244,7 +244,7 @@ impl<'a> Words<'a> {
         Ok(sixteen_bytes(alloc, word)?.ok_or(LineFault::BadHex)?)
     }
 
-    /// Sees that no word is left.
+    /// Checks that no word is left.
     #[tactic(auto, unfolding(crate::specs::Grammar::nothing_more))]
     pub(crate) fn end(&mut self) -> Result<(), LineFault>
         ensures of_lines { MatchResult result (λ u. (what : Line) → nothing_more self.old what ≡ Ok what) (λ fault. (what : Line) → nothing_more self.old what ≡ Err fault) }

@@ -1,6 +1,6 @@
 //! What a load is made of: which commands, of which size, how many, by whom.
 //!
-//! `command_line` has it of words, and `load` runs it, so that neither waits for the other.
+//! `command_line` reads it from words, and `load` runs it, so that neither waits for the other.
 
 ghost use Rattle.std.specs.Prelude.{◌≡◌};
 ghost use Rattle.script_cli.specs.Patterns.{format_named, pattern_name, pattern_named};
@@ -96,7 +96,7 @@ impl OutputFormat {
     }
 }
 
-/// What `load` is asked for, beside its world.
+/// What `load` is asked for, besides its world.
 #[derive(Clone, Copy, Debug, PartialEq, Eq)]
 pub struct Load<'a> {
     /// Which commands there are.

@@ -1,8 +1,8 @@
 //! A desk: a driver in one thread with seats, and the commands that it keeps, on which steps are values as on a bench.
 //!
-//! [`Desk::make`] makes a step by the call of the driver, or of the command, that makes it, and answers in the words of a bench (`step_core`).
-//! What the last seat cannot do is `NoValue`. The driver is a book, or a book behind its lock ([`Access`]). A transcript is played on a desk as
-//! on a bench. [`runs`] are runs of threads over a book of their own, and [`two_submitters`] has the jobs of one.
+//! [`Desk::make`] makes a step by the call of the driver, or of the command, that makes it, and answers in the words of a bench (`step_core`). What
+//! the last seat cannot do is `NoValue`. The driver is a book, or a book under its lock ([`Access`]). A transcript is played on a desk as on a bench.
+//! [`runs`] are runs of threads over a book of their own, and [`two_submitters`] has the jobs of one.
 
 mod access;
 mod answers;
@@ -32,15 +32,15 @@ pub use values::Value;
 pub struct Desk<'r, L: FullLogBrand, R: Wait, A: Allocator = Global> {
     /// What may wait for a lock.
     pub rt: &'r R,
-    /// Where the list of the commands stands, and the replies that are handed out.
+    /// Where the list of the commands is, and the replies that are handed out.
     pub alloc: Global,
-    /// Where all else stands.
+    /// Where all else is.
     pub heap: A,
     /// The book, or its lock.
     pub access: Access<L, A>,
-    /// The seats in the order in which they were made, but for turns.
+    /// The seats in the order in which they were made, except for turns.
     pub seats: Vec<Seat<L, A>, A>,
-    /// The commands, the one that was put last behind the others.
+    /// The commands, the last one put at the end.
     pub values: Vec<Value<A>>,
 }
 
@@ -180,7 +180,7 @@ impl<'r, L: FullLogBrand, R: Wait, A: Allocator + Copy> Desk<'r, L, R, A> {
         }
     }
 
-    /// Makes a step whose values stand in the heap, and answers what it answered.
+    /// Makes a step whose values are in the heap, and answers what it answered.
     ///
     /// # Errors
     ///
@@ -228,7 +228,7 @@ impl<'r, L: FullLogBrand, R: Wait, A: Allocator + Copy> Desk<'r, L, R, A> {
         }
     }
 
-    /// Ends the book, and lets the commands go that it left over. It answers how many entries the log had.
+    /// Ends the book, and lets go of the commands that it left over. It answers how many entries the log had.
     pub fn end(self) -> usize {
         let Desk {
             rt: _,

@@ -1,8 +1,8 @@
 //! Scripts with their answers, played in each way.
 //!
-//! Each is played on a bench, through a book and behind a lock, and answers each time as stands in it. Then it is played once for each growth
-//! of memory that it has on a bench, and that it has through a book from the opening to the end, which is refused; and once on a bench with no
-//! memory for the calls that take none. The first difference is told, and the file and the line where it is.
+//! Each is played on a bench, through a book and under a lock, and answers each time as it says. Then it is played once for each growth of memory
+//! that it has on a bench, and that it has through a book from the opening to the end, which is refused; and once on a bench with no memory for the
+//! calls that take none. The first difference is told, and the file and the line where it is.
 
 mod book;
 mod fault;
@@ -27,8 +27,8 @@ use std::thread::Threads;
 use std::{fs, io};
 use threads::refuse_each_in_threads;
 
-/// So many growths of a run of threads are told at most: how many there are depends on which commands are outstanding at one time, as a host keeps the
-/// lists of those that are over.
+/// At most this many growths of a run of threads are told: how many there are depends on which commands are outstanding at one time, as a host keeps
+/// the lists of those that are over.
 const MOST_TOLD: u64 = 100;
 
 /// Plays the transcript of a file in each way, prints its line and counts it. Where it is not as it says, that is told, and the answer is false.
@@ -96,7 +96,7 @@ fn play_each_way<R: AllocGlobal + Eprint + Wait>(
     Ok((scores, through_book.standing))
 }
 
-/// Plays a transcript behind a lock, and with its growths refused, which must leave what it left before. It answers how much was played.
+/// Plays a transcript under a lock, and with its growths refused, which must leave what it left before. It answers how much was played.
 fn play_again<'t, R: AllocGlobal + Eprint + Wait>(
     rt: &R,
     run: Run<'t>,

@@ -2,10 +2,10 @@
 //!
 //! - `.session`: commands of `nvmesgl` as somebody types them. Each line is printed again, and below a command what it prints.
 //! - `.case`: the lines of a case of `nvmesgl explain`, with what is printed for it. It is also cut after each of its bytes.
-//! - `.transcript`: a script with its answers. It is played on a bench, through a book and behind a lock, and once for each growth of memory that is refused.
+//! - `.transcript`: a script with its answers. It is played on a bench, through a book and under a lock, and once for each refused growth of memory.
 //!
-//! The word `lines` reads a hundred thousand arbitrary lines as lines of a case, `sum` prints how much was played of scripts since the last `sum`, and
-//! `growths` refuses each growth of a draft that visits another book, and of a run of threads. What must be printed stands in `stdout`.
+//! The word `lines` reads a hundred thousand arbitrary lines as lines of a case, `sum` prints how much was played of scripts since the last `sum`,
+//! and `growths` refuses each growth of a draft that visits another book, and of a run of threads. What must be printed is in `stdout`.
 #![tactic(auto)]
 
 mod cases;

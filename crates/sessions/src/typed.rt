@@ -1,6 +1,6 @@
 //! Sessions: commands as somebody types them.
 //!
-//! The commands are `nvmesgl ..`, `cat FILE`, and either with `; echo $?` behind it.
+//! The commands are `nvmesgl ..`, `cat FILE`, and either with `; echo $?` after it.
 
 mod play;
 mod printed;

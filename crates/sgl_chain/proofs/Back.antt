@@ -1,4 +1,4 @@
--- A chain's parts are those that it was built of, and a descriptor spells one list of parts at most.
+-- A chain's parts are those that it was built of, and a descriptor spells at most one list of parts.
 use Rattle.std.proofs.Common.{◌∙◌, arith, ◌≡◌, ◌≤◌, ◌<◌, ◌-◌, ◌++◌, ℕ, suc, refl, inl, inr, List, [], ◌∷◌, Some, None, length, map, take, drop, ap, subst, sym, ◌+◌, zero, Option, lit≤, lit<}
 use Rattle.std.proofs.lemmas.{Bool.{cases_lt, Decides.nat_tests}, List.{append-nil, take-append-drop, append_cancel_left, Elements.filter_map-append}}
 use Rattle.std.specs.List.{filter_map}
@@ -56,7 +56,7 @@ parts_back s [] [] has = absurd (let some : 0 < 0 = has.some in omega arith)
 parts_back s [] (part ∷ []) has = parts_found (part ∷ [])
 parts_back s [] (part ∷ other ∷ parts) has = absurd (let one : suc (suc (length parts)) ≤ 1 = one_part s (part ∷ other ∷ parts) has in omega arith)
 
--- What a chain is whose first descriptor and segments are known.
+-- What a chain with known first descriptor and segments is.
 
 -- the chain of parts on pages
 pub record IsBuilt (s : ℕ) (pages : List ℕ) (parts : List Part) (sgl : Sgl) : Type 0 where
@@ -92,7 +92,7 @@ built_spells s pages parts sgl is most fit m laid =
 pub built_parts : (s : ℕ) (pages : List ℕ) (parts : List Part) (sgl : Sgl) → IsBuilt s pages parts sgl → parts_of sgl ≡ parts
 built_parts s pages parts sgl is = rw (is.first, is.segments) (parts_back s pages parts is.has)
 
--- A descriptor spells one list of parts at most.
+-- A descriptor spells at most one list of parts.
 
 -- the same bytes spell one descriptor
 same_spelling : (d e : Descriptor) (bytes : List ℕ) → IsSpelling d bytes → IsSpelling e bytes → d ≡ e
@@ -101,7 +101,7 @@ same_spelling d e bytes is also =
     let other : descriptor_of bytes ≡ Some e = found bytes e also in
     cc
 
--- the descriptor that stands somewhere
+-- the descriptor at an address
 Stands : Memory → ℕ → Descriptor → Type 0
 Stands m place d = (bytes : List ℕ) × (bytes_at m place 16 ≡ Some bytes) × IsSpelling d bytes
 
@@ -168,7 +168,7 @@ same_by m (Segment addr len) (x ∷ xs) (y ∷ ys) parts also (at, (front, last,
     let rests : rest ≡ rest' = same_by m last xs ys rest rest' behind (subst (λ (d : Descriptor). SpellsBy m d ys rest') (sym lasts) behind') in
     all ∙ (rw (fronts, rests) refl) ∙ sym all'
 
--- one list of parts at most
+-- at most one list of parts
 pub one_list : (m : Memory) (d : Descriptor) (parts also : List Part) → Spells m d parts → Spells m d also → parts ≡ also
 one_list m d parts also (segments, few, by) (others, few', by') = same_by m d segments others parts also by by'
 

@@ -6,7 +6,7 @@ use Rattle.sgl_descriptor.{proofs.Counts.length-targets, specs.{Targets.{Target,
 use Rattle.sgl_descriptor.specs.declared.Part.{Part, TheVariants.{Data, Bucket}}
 use Rattle.sgl_chain.specs.Joining.{joins, both, first_joined, left_behind, joined_within, joined, NoneJoin}
 
--- Joined parts: how a list of them grows from its front, and what they keep.
+-- Joined parts: how a list of them grows from its start, and what they keep.
 
 -- what is left is shorter than the list
 either_few : (b : Bool) (xs ys : List Part) (n : ℕ) → length xs ≤ n → length ys ≤ n → length (if b then xs else ys) ≤ n
@@ -31,7 +31,7 @@ within_same (suc b) (suc c) (part ∷ parts) p q =
     let few : length (left_behind part parts) ≤ length parts = left_few part parts in
     ap (λ (xs : List Part). first_joined part parts ∷ xs) (within_same b c (left_behind part parts) (omega arith) (omega arith))
 
--- the joined parts of a part and those behind it, one part after the other
+-- the joined parts of a part and those after it, one part after the other
 abbrev pub joined_from : Part → List Part → List Part
 joined_from part [] = part ∷ []
 joined_from part (next ∷ parts) = if joins part next then joined_from (both part next) parts else part ∷ joined_from next parts
@@ -78,7 +78,7 @@ pub joined_few : (parts : List Part) → length (joined parts) ≤ length parts
 joined_few [] = omega arith
 joined_few (part ∷ parts) = subst (λ (xs : List Part). length xs ≤ suc (length parts)) (sym (from_list part parts)) (from_few part parts)
 
--- two parts that join have one part's places
+-- two parts that join have one part's addresses
 range_append : (a n m b : ℕ) → a + n ≡ b → range_with_len a (n + m) ≡ range_with_len a n ++ range_with_len b m
 range_append a zero m b is =
     let same : a ≡ b = omega arith in
@@ -118,7 +118,7 @@ same_targets dir (part ∷ parts) = ap (targets dir) (from_list part parts) ∙ 
 pub same_count : (dir : Direction) (parts : List Part) → counted_in dir (joined parts) ≡ counted_in dir parts
 same_count dir parts = sym (length-targets dir (joined parts)) ∙ ap length (same_targets dir parts) ∙ length-targets dir parts
 
--- no neighbours of a part and those behind it join
+-- no neighbours of a part and those after it join
 abbrev ApartFrom : Part → List Part → Type 0
 ApartFrom part [] = Unit {0}
 ApartFrom part (next ∷ parts) = (joins part next ≡ false) × ApartFrom next parts
@@ -151,7 +151,7 @@ all_apart : (parts : List Part) → Apart (joined parts)
 all_apart [] = tt
 all_apart (part ∷ parts) = subst Apart (sym (from_list part parts)) (apart_from part parts)
 
--- neighbours at any place of such a list
+-- neighbours at any position of such a list
 apart_behind : (before : Part) (front behind : List Part) (part next : Part) → ApartFrom before (front ++ part ∷ next ∷ behind) → joins part next ≡ false
 apart_behind before [] behind part next h = h.1.0
 apart_behind before (x ∷ front) behind part next h = apart_behind x front behind part next h.1

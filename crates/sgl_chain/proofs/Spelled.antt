@@ -28,7 +28,7 @@ pub within_one : (b k s : ℕ) → 1 ≤ k → k ≤ b → k ≤ s → segments_
 within_one zero k s some p q = absurd (omega arith)
 within_one (suc b) k s some p q = grind (arith, nat_tests)
 
--- of more parts than stand in one segment, the rest needs one segment less
+-- of more parts than fit in one segment, the rest needs one segment less
 pub within_rest : (k s : ℕ) → 2 ≤ s → s < k → segments_within k k s ≡ 1 + segments_within (k - (s - 1)) (k - (s - 1)) s
 within_rest zero s two more = absurd (omega arith)
 within_rest (suc k) s two more =
@@ -84,7 +84,7 @@ needed_more j k s low more = elim (cases_lt 1 j) [
 
 -- The segments of parts, by the length of both lists.
 
--- parts with a page for each of their segments, of which there is one at least
+-- parts with a page for each of their segments, at least one
 pub record IsCut (s : ℕ) (pages : List ℕ) (parts : List Part) : Type 0 where
   pub low : 2 ≤ s
   pub high : s ≤ 256
@@ -104,7 +104,7 @@ on_more s [] parts d two more = absurd (omega arith)
 on_more s (page ∷ []) parts d two more = absurd (omega arith)
 on_more s (page ∷ next ∷ pages) parts d two more = grind (arith, nat_tests)
 
--- two pages at least, where the parts are more than stand in one segment
+-- at least two pages, where the parts are more than fit in one segment
 pub two_pages : (s k n : ℕ) → 2 ≤ s → s < k → n ≡ segments_within k k s → 2 ≤ n
 two_pages s k n low more is =
     let rest : segments_within k k s ≡ 1 + segments_within (k - (s - 1)) (k - (s - 1)) s = within_rest k s low more in
@@ -205,7 +205,7 @@ lay_all descriptors i start page le ge is =
 
 -- The segments of parts, laid in their pages, spell the parts.
 
--- bytes that stand somewhere are read there
+-- bytes at an address are read there
 bytes_held : (m : Memory) (place : ℕ) (bytes : List ℕ) → Holds m place bytes → bytes_at m place (length bytes) ≡ Some bytes
 unfolding bytes_at
 bytes_held m place [] h = refl
@@ -262,7 +262,7 @@ parts_fit parts h = All-map Fits descriptor_of_part parts h
 page_fits : (page : ℕ) (pages : List ℕ) (parts : List Part) → AreTyped (page ∷ pages) parts → page < 2 ^ 32
 page_fits page pages parts typed = All-head (λ p. p < 2 ^ 32) page pages typed.pages_fit
 
--- the front of the parts, and the link behind them
+-- the first parts, and the link after them
 front_fits : (s page next : ℕ) (pages : List ℕ) (parts : List Part) → s ≤ 256 → AreTyped (page ∷ next ∷ pages) parts →
     All Fits (map descriptor_of_part (take (s - 1) parts) ++ link s next (length parts - (s - 1)) ∷ [])
 front_fits s page next pages parts high typed =
@@ -327,7 +327,7 @@ spells_from m s page (next ∷ pages) parts cut fit laid = elim (cases_lt s (len
   | inr few ↦ spells_one m s page (next ∷ pages) parts cut few fit laid
 ]
 
--- no more than two descriptors for each part
+-- at most two descriptors for each part
 count_on : (s : ℕ) (pages : List ℕ) (parts : List Part) → IsCut s pages parts → descriptors_in (segments_on s pages parts) ≤ 2 * length parts
 count_on s [] parts cut = omega arith
 count_on s (page ∷ []) parts cut = rw (on_one s (page ∷ []) parts (omega arith) (one_alone s page parts cut), length-map parts descriptor_of_part) (omega arith)

@@ -4,7 +4,7 @@ use Rattle.std.specs.Prelude.{◌+◌, ◌-◌, ◌*◌, ◌≤◌, ◌++◌, �
 use Rattle.sgl_descriptor.specs.{Spelling.{spelling, Fits}, Targets.descriptor_of_part, declared.Descriptor.Descriptor}
 use Rattle.sgl_descriptor.specs.declared.{Descriptor.TheVariants.{DataBlock, BitBucket, Segment, LastSegment}, Part.{Part, TheVariants.{Data, Bucket}}}
 
--- Up to s parts stand in one segment. Of more, s - 1 stand in the first, and the rest in those behind it. The first
+-- Up to s parts are in one segment. Of more, s - 1 are in the first, and the rest in those after it. The first
 -- argument bounds the recursion: there are never more segments than parts.
 abbrev pub segments_within : ℕ → ℕ → ℕ → ℕ
 segments_within zero k s = 0
@@ -14,7 +14,7 @@ segments_within (suc bound) k s = if nat_le k s then 1 else 1 + segments_within 
 abbrev pub pages_needed : ℕ → ℕ → ℕ
 pages_needed k s = if nat_le k 1 then 0 else segments_within k k s
 
--- the link to the segments of k parts, of which the first stands on this page
+-- the link to the segments of k parts, the first of which is on this page
 abbrev pub link : ℕ → ℕ → ℕ → Descriptor
 link s page k = if nat_le k s then LastSegment (4096 * page) (16 * k) else Segment (4096 * page) (16 * s)
 
@@ -23,7 +23,7 @@ abbrev pub link_to : ℕ → List ℕ → ℕ → List Descriptor
 link_to s [] k = []
 link_to s (page ∷ pages) k = link s page k ∷ []
 
--- The segments of parts, one on each page: up to s parts stand in one; of more, s - 1 and the link to the rest.
+-- The segments of parts, one on each page: up to s parts are in one; of more, s - 1 and the link to the rest.
 abbrev pub segments_on : ℕ → List ℕ → List Part → List (List Descriptor)
 segments_on s [] parts = []
 segments_on s (page ∷ pages) parts =
@@ -45,12 +45,12 @@ pub record FitsPage (descriptors : List Descriptor) : Type 0 where
 abbrev pub AllFit : List (List Descriptor) → Type 0
 AllFit segments = All (λ descriptors. All Fits descriptors) segments
 
--- a segment, and those behind it
+-- a segment, and those after it
 pub record Linked : Type 0 where
   pub descriptors : List Descriptor
   pub behind : List (List Descriptor)
 
--- all segments from this one on
+-- all segments starting at this one
 abbrev pub segments_from : Linked → List (List Descriptor)
 segments_from segment = segment.descriptors ∷ segment.behind
 

@@ -2,8 +2,8 @@
 use Rattle.std.specs.Prelude.{◌≡◌, ◌+◌, ◌^◌, ◌==◌, ◌&&◌, ◌++◌, ◌∷◌, [], ℕ, zero, suc, Bool, false, List, if◌then◌else◌, nat_lt, length}
 use Rattle.sgl_descriptor.specs.declared.Part.{Part, TheVariants.{Data, Bucket}}
 
--- Two neighbours join where both are data, the first ends at the place where the second begins, and their lengths
--- together fit 32 bits. Places are whole numbers: none is where a part ends that ends with the last place.
+-- Two neighbours join where both are data, the first ends at the address where the second begins, and their lengths
+-- together fit 32 bits. Addresses are whole numbers: none is at the end of a part that ends with the last address.
 abbrev pub joins : Part → Part → Bool
 joins (Data addr len) (Data next more) = (addr + len == next) && nat_lt (len + more) (2 ^ 32)
 joins (Data addr len) (Bucket more) = false
@@ -15,17 +15,17 @@ both (Data addr len) (Data next more) = Data addr (len + more)
 both (Data addr len) (Bucket more) = Data addr len
 both (Bucket len) next = Bucket len
 
--- the first joined part of a list that begins with a part: that part and those behind it, as long as they join
+-- the first joined part of a list that begins with a part: that part and those after it, while they join
 abbrev pub first_joined : Part → List Part → Part
 first_joined part [] = part
 first_joined part (next ∷ parts) = if joins part next then first_joined (both part next) parts else part
 
--- what is left behind the first joined part
+-- what is left after the first joined part
 abbrev pub left_behind : Part → List Part → List Part
 left_behind part [] = []
 left_behind part (next ∷ parts) = if joins part next then left_behind (both part next) parts else next ∷ parts
 
--- the joined parts, of which there are at most as many as the first argument says
+-- the joined parts, at most as many as the first argument says
 abbrev pub joined_within : ℕ → List Part → List Part
 joined_within zero parts = []
 joined_within (suc bound) [] = []
@@ -35,6 +35,6 @@ joined_within (suc bound) (part ∷ parts) = first_joined part parts ∷ joined_
 abbrev pub joined : List Part → List Part
 joined parts = joined_within (length parts) parts
 
--- No part joins the one behind it.
+-- No part joins the one after it.
 abbrev pub NoneJoin : List Part → Type 0
 NoneJoin parts = (front behind : List Part) (part next : Part) → parts ≡ front ++ part ∷ next ∷ behind → joins part next ≡ false

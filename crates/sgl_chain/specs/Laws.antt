@@ -26,7 +26,7 @@ abbrev pub LaidChainsSpell : ℕ → Type 0
 LaidChainsSpell s = (pages : List ℕ) (parts : List Part) → HasPages s pages parts → AreTyped pages parts → length parts ≤ 1024 →
     SpellsWhereLaid pages (chain_of s pages parts) parts
 
--- A descriptor spells one list of parts at most.
+-- A descriptor spells at most one list of parts.
 abbrev pub OneList : Memory → Type 0
 OneList m = (d : Descriptor) (parts others : List Part) → Spells m d parts → Spells m d others → parts ≡ others
 
@@ -42,13 +42,13 @@ SpelledInMore m larger = HasBytesOf larger m → (d : Descriptor) (parts : List 
 abbrev pub PartsComeBack : ℕ → Type 0
 PartsComeBack s = (pages : List ℕ) (parts : List Part) → HasPages s pages parts → parts_of (chain_of s pages parts) ≡ parts
 
--- Where a page of the pool is what laying a segment made of it, the memory holds the segment's bytes from the page's
--- first place on.
+-- Where a page of the pool is what laying a segment made of it, the memory holds the segment's bytes starting at the page's
+-- first address.
 abbrev pub PagesHoldSegments : Pages → Type 0
 PagesHoldSegments pages = (p : ℕ) (page : List ℕ) (descriptors : List Descriptor) →
     page_at pages p ≡ Some (with_bytes page 0 (segment_bytes descriptors)) → Holds (byte_at pages) (4096 * p) (segment_bytes descriptors)
 
--- Segments are laid in their pages exactly where the memory holds the bytes of each, by its place among them, in the page at that place.
+-- Segments are laid in their pages exactly where the memory holds the bytes of each, by its index among them, in the page at that index.
 abbrev pub LaidByNumber : Memory → Type 0
 LaidByNumber m = (pages : List ℕ) (segments : List (List Descriptor)) → length segments ≤ length pages →
     (IsLaid m pages segments) ↔ ((i : ℕ) → i < length segments → Holds m (4096 * slice_index pages i) (segment_bytes (segment_at segments i)))

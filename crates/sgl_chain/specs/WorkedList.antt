@@ -2,11 +2,11 @@
 use Rattle.std.specs.Prelude.{◌++◌, ◌∷◌, [], ℕ, List, Some, None}
 use Rattle.page_memory.specs.Pages.{Pages}
 
--- a Data Block of 512 bytes from 4000h on, with bytes in its reserved places
+-- a Data Block of 512 bytes at 4000h, with bytes in its reserved fields
 abbrev pub data_bytes : List ℕ
 data_bytes = 0x00 ∷ 0x40 ∷ 0 ∷ 0 ∷ 0 ∷ 0 ∷ 0 ∷ 0 ∷ 0x00 ∷ 0x02 ∷ 0 ∷ 0 ∷ 0xaa ∷ 0xbb ∷ 0xcc ∷ 0x00 ∷ []
 
--- a Last Segment descriptor of 16 bytes from 2000h on
+-- a Last Segment descriptor of 16 bytes at 2000h
 abbrev pub link_bytes : List ℕ
 link_bytes = 0x00 ∷ 0x20 ∷ 0 ∷ 0 ∷ 0 ∷ 0 ∷ 0 ∷ 0 ∷ 0x10 ∷ 0 ∷ 0 ∷ 0 ∷ 0xaa ∷ 0xbb ∷ 0xcc ∷ 0x30 ∷ []
 

@@ -38,7 +38,7 @@ impl From<AllocError> for BuildFault {
     }
 }
 
-/// How many pages the chain of so many parts needs, one for each segment, with segments of up to `segment_size`
+/// How many pages a chain of this many parts needs, one for each segment, with segments of up to `segment_size`
 /// descriptors: none for one part.
 pub fn pages_needed(parts: usize, segment_size: usize) -> usize
     requires { 2 ≤ segment_size }
@@ -52,7 +52,7 @@ pub fn pages_needed(parts: usize, segment_size: usize) -> usize
     }
 }
 
-/// The link to the segments of so many parts, of which the first stands on this page.
+/// The link to the segments of this many parts, the first of which is on this page.
 fn link(segment_size: usize, page: PageNo, parts: usize) -> Descriptor
     requires small { segment_size ≤ 256 }
     requires most { parts ≤ 1024 }
@@ -100,7 +100,7 @@ fn build_segments<A: Allocator + Clone>(
     }
 }
 
-/// An SGL: its first descriptor, which a command carries as SGL1, and the segments behind it. Contracts see it as that
+/// An SGL: its first descriptor, which a command carries as SGL1, and the segments after it. Contracts see it as that
 /// descriptor and the list of the segments, each a list of descriptors.
 #[derive(Drop)]
 pub struct Chain<A: Allocator> {
@@ -122,10 +122,10 @@ impl<A: Allocator> Model for Chain<A> {
 
 impl<A: Allocator + Clone> Chain<A> {
     /// Builds the chain of 1 to 1,024 parts, with a segment on each of the pages and up to `segment_size` descriptors,
-    /// 2 to 256, in each. The allocator is cloned for each segment, and once more for each behind the first.
+    /// 2 to 256, in each. The allocator is cloned for each segment, and once more for each after the first.
     ///
-    /// On one page one segment is laid over the other, so a caller gives distinct pages. What is proved of the chain needs
-    /// no such premise. A chain that is not built gives back what was taken of memory.
+    /// Segments laid on one page overwrite each other, so a caller gives distinct pages. What is proved of the chain needs
+    /// no such premise. A chain that is not built gives back the memory it took.
     ///
     /// # Errors
     ///
@@ -195,10 +195,10 @@ impl<A: Allocator> Chain<A> {
         self.first
     }
 
-    /// The first segment, which shows those behind it; `None` where the chain is one part.
+    /// The first segment, which shows those after it; `None` where the chain is one part.
     ///
-    /// Who lays each segment in its page goes from here along [`Segment::next`], and not by [`Chain::lay`], which goes to
-    /// its segment from the front each time.
+    /// Whoever lays each segment in its page goes from here along [`Segment::next`], and not by [`Chain::lay`], which goes to
+    /// its segment from the start each time.
     pub fn head(&self) -> Option<&Segment<A>>
         ensures { MatchOption result (self.now.segments ≡ []) (λ segment. self.now.segments ≡ segments_from segment.now) }
     {

@@ -6,7 +6,7 @@ ghost use Rattle.sgl_chain.specs.Joining.{joins, both};
 use sgl_descriptor::Part;
 
 /// The one part that two neighbours become: data from where the first begins, as long as both together. `None` where they
-/// do not join: two data parts join where the first ends at the place where the second begins and their lengths together
+/// do not join: two data parts join where the first ends at the address where the second begins and their lengths together
 /// fit 32 bits; a bucket joins nothing.
 pub fn join(first: Part, second: Part) -> Option<Part>
     ensures { result ≡ (if joins first second then Some (both first second) else None) }

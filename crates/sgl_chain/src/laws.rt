@@ -15,7 +15,7 @@ pub fn laid_chains_spell()
     ensures { (s : ℕ) → LaidChainsSpell s }
 {}
 
-/// Over a memory a descriptor spells one list of parts at most.
+/// Over a memory a descriptor spells at most one list of parts.
 pub fn spells_one_list()
     ensures { (m : Memory) → OneList m }
 {}

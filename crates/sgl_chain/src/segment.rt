@@ -1,4 +1,4 @@
-//! Segments, and the descriptors that stand in each.
+//! Segments, and the descriptors in each.
 
 ghost use Rattle.std.specs.Prelude.{◌≡◌, ◌<◌, ◌≤◌, ◌+◌, ◌^◌, ◌++◌, ◌∷◌, [], IfOk, OnOk, All, length, map, drop};
 ghost use Rattle.std.specs.List.{filter_map};
@@ -34,7 +34,7 @@ impl<A: Allocator> Model for Descs<A> {
 }
 
 impl<A: Allocator> Descs<A> {
-    /// No descriptors, with room for so many.
+    /// No descriptors, with room for this many.
     fn with_capacity(alloc: A, capacity: usize) -> Result<Self, AllocError>
         ensures { IfOk result (λ descs. descs ≡ []) }
     {
@@ -76,7 +76,7 @@ impl<A: Allocator> Descs<A> {
         Ok(descs)
     }
 
-    /// The descriptors of parts, and behind them a link.
+    /// The descriptors of parts, and after them a link.
     pub(crate) fn linked(alloc: A, parts: &[Part], link: Descriptor) -> Result<Self, AllocError>
         requires { length parts.now < 256 }
         ensures descs { IfOk result (λ descs. descs ≡ map descriptor_of_part parts.now ++ link ∷ []) }
@@ -98,13 +98,13 @@ impl<A: Allocator> Descs<A> {
     }
 }
 
-/// A segment, and behind it the one that its last descriptor names. Contracts see it as its descriptors, and those of
-/// each segment behind it.
+/// A segment, and after it the one that its last descriptor names. Contracts see it as its descriptors, and those of
+/// each segment after it.
 #[derive(Drop)]
 pub struct Segment<A: Allocator> {
     /// The descriptors of this segment.
     pub descs: Descs<A>,
-    /// The segment behind it, `None` at the last.
+    /// The segment after it, `None` at the last.
     pub next: Option<Box<Segment<A>, A>>,
 }
 
@@ -124,7 +124,7 @@ impl<A: Allocator> Model for Segment<A> {
 }
 
 impl<A: Allocator> Segment<A> {
-    /// How many segments there are from this one on.
+    /// How many segments there are, starting at this one.
     pub(crate) fn count(&self) -> usize
         requires { length (segments_from self.now) < 2 ^ 32 }
         ensures { result ≡ length (segments_from self.now) }
@@ -154,7 +154,7 @@ impl<A: Allocator> Segment<A> {
         lay_descriptors(self.descs.as_slice(), page);
     }
 
-    /// Adds the parts of this segment and of those behind it.
+    /// Adds the parts of this segment and of those after it.
     pub(crate) fn push_into<B: Allocator>(&self, out: &mut Vec<Part, B>) -> Result<(), AllocError>
         ensures { OnOk result (out.new.items ≡ out.old.items ++ parts_in (segments_from self.now)) }
     {

@@ -11,7 +11,7 @@ ghost use Rattle.sgl_chain.specs.Spells.{Spells};
 ghost use Rattle.sgl_chain.specs.WorkedList.{linked_pages};
 ghost use Rattle.page_memory.specs.Pages.{byte_at};
 
-/// How many pages parts need, with 256 and with 2 descriptors a segment.
+/// How many pages parts need, with 256 and with 2 descriptors per segment.
 pub fn worked_pages_needed()
     ensures one { pages_needed 1 256 ≡ 0 }
     ensures two { pages_needed 2 256 ≡ 1 }
@@ -25,7 +25,7 @@ pub fn worked_pages_needed()
     ensures small_many { pages_needed 1024 2 ≡ 1023 }
 {}
 
-/// Three Data parts with two descriptors a segment, on pages 7 and 8.
+/// Three Data parts with two descriptors per segment, on pages 7 and 8.
 pub fn worked_segments()
     ensures first { spelling (first_of 2 (7 ∷ 8 ∷ []) (Data 0x4000 512 ∷ Data 0x5000 512 ∷ Data 0x6000 512 ∷ [])) ≡
         0x00 ∷ 0x70 ∷ 0 ∷ 0 ∷ 0 ∷ 0 ∷ 0 ∷ 0 ∷ 0x20 ∷ 0 ∷ 0 ∷ 0 ∷ 0 ∷ 0 ∷ 0 ∷ 0x20 ∷ [] }
@@ -45,7 +45,7 @@ pub fn worked_bucket()
         0x00 ∷ 0x00 ∷ 0 ∷ 0 ∷ 0 ∷ 0 ∷ 0 ∷ 0 ∷ 0x00 ∷ 0x02 ∷ 0 ∷ 0 ∷ 0 ∷ 0 ∷ 0 ∷ 0x10 ∷ []) ∷ [] }
 {}
 
-/// One part stands in the first descriptor, with no segment.
+/// One part is in the first descriptor, with no segment.
 pub fn worked_single_part()
     ensures first { spelling (first_of 2 [] (Data 0x4000 512 ∷ [])) ≡
         0x00 ∷ 0x40 ∷ 0 ∷ 0 ∷ 0 ∷ 0 ∷ 0 ∷ 0 ∷ 0x00 ∷ 0x02 ∷ 0 ∷ 0 ∷ 0 ∷ 0 ∷ 0 ∷ 0x00 ∷ [] }
@@ -60,8 +60,8 @@ pub fn worked_list()
     ensures not_last { (parts : List Part) → ¬ Spells (byte_at linked_pages) (LastSegment 4096 32) parts }
 {}
 
-/// Parts that join, and parts that do not: behind a gap, beside a Bucket, past what 32 bits count, and at the end of all
-/// places.
+/// Parts that join, and parts that do not: after a gap, beside a Bucket, past what 32 bits count, and at the end of all
+/// addresses.
 pub fn worked_joins()
     ensures four { joined (Data 0x4000 4096 ∷ Data 0x5000 4096 ∷ Data 0x6000 4096 ∷ Data 0x7000 4096 ∷ []) ≡ Data 0x4000 16384 ∷ [] }
     ensures gap { joined (Data 0x4000 512 ∷ Data 0x5000 512 ∷ []) ≡ Data 0x4000 512 ∷ Data 0x5000 512 ∷ [] }

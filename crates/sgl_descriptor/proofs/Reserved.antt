@@ -6,7 +6,7 @@ use Rattle.sgl_descriptor.{proofs.Spells.{found, spelled, none_of, valid_or_not,
 use Rattle.sgl_descriptor.specs.Spelling.{IsSpelling, descriptor_of, address_of, length_of, type_of, HasInvalidType, IsReserved, AgreeOutsideReserved}
 use Rattle.sgl_descriptor.specs.declared.Descriptor.{Descriptor, TheVariants.{BitBucket}}
 
--- Below, a piece is n bytes from the k-th on.
+-- Below, a piece is n bytes starting at the k-th.
 
 get_or-piece : (k n : ℕ) (a : List ℕ) (i : ℕ) → i < n → get_or (take n (drop k a)) i 0 ≡ get_or a (k + i) 0
 get_or-piece k n a i h = get_or-take n (drop k a) i 0 h ∙ get_or-drop k a i 0
@@ -26,11 +26,11 @@ piece_same k n a b ha hb same =
     (λ i h. let within : i < n = omega (arith, length-piece k n a ha) in
     get_or-piece k n a i within ∙ same i within ∙ sym (get_or-piece k n b i within))
 
--- reads of one piece that are one, at each byte
+-- equal reads of one piece, at each byte
 from_piece : (k n : ℕ) (a b : List ℕ) → take n (drop k a) ≡ take n (drop k b) → (i : ℕ) → i < n → get_or a (k + i) 0 ≡ get_or b (k + i) 0
 from_piece k n a b e i h = sym (get_or-piece k n a i h) ∙ ap (λ (xs : List ℕ). get_or xs i 0) e ∙ get_or-piece k n b i h
 
--- one address, one string of 8 bytes
+-- equal addresses, equal strings of 8 bytes
 
 same_address : (a b : List ℕ) → IsSixteenBytes a → IsSixteenBytes b → address_of a ≡ address_of b → (i : ℕ) → i < 8 → get_or a i 0 ≡ get_or b i 0
 same_address a b ha hb e i h =
@@ -47,7 +47,7 @@ address_same a b ha hb same =
     (λ i h. let within : i < 8 = omega (arith, length-take-le 8 a (omega (arith, ha.sixteen))) in
     get_or-take 8 a i 0 within ∙ same i within ∙ sym (get_or-take 8 b i 0 within)))
 
--- one length, one string of 4 bytes
+-- equal lengths, equal strings of 4 bytes
 
 same_length : (a b : List ℕ) → IsSixteenBytes a → IsSixteenBytes b → length_of a ≡ length_of b → (i : ℕ) → i < 4 → get_or a (8 + i) 0 ≡ get_or b (8 + i) 0
 same_length a b ha hb e i h =
@@ -67,7 +67,7 @@ record SameFields (a b : List ℕ) : Type 0 where
   len : length_of a ≡ length_of b
   addr : type_of a ≢ 1 → address_of a ≡ address_of b
 
--- bytes before 12 and byte 15 are free of the first reason, bytes from 8 on and those of other types of the second
+-- bytes before 12 and byte 15 are not reserved for the first reason, bytes starting at 8 and those of other types not for the second
 not_reserved : (kind i : ℕ) → (i < 12) ⊎ (14 < i) → (kind ≢ 1) ⊎ (7 < i) → ¬ IsReserved kind i
 not_reserved kind i place type (inl h) = elim place [ inl before ↦ omega (arith, h.0, h.1) | inr behind ↦ omega (arith, h.0, h.1) ]
 not_reserved kind i place type (inr h) = elim type [ inl other ↦ absurd (other h.0) | inr behind ↦ omega (arith, h.1) ]

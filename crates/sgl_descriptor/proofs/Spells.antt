@@ -4,14 +4,14 @@ use Rattle.std.proofs.lemmas.Nat.{from_le_bytes-to_le_bytes_8, from_le_bytes-to_
 use Rattle.sgl_descriptor.specs.{Laws.OneSpelling, Spelling.{IsSpelling, spelling, Fits, descriptor_of, address_of, length_of, type_of, subtype_of, HasValidType, HasInvalidType}, declared.Descriptor.Descriptor}
 use Rattle.sgl_descriptor.specs.declared.Descriptor.TheVariants.{DataBlock, BitBucket, Segment, LastSegment}
 
--- what is written of a descriptor whose fields fit spells it
+-- what is written for a descriptor whose fields fit spells it
 pub spells_itself : (d : Descriptor) → Fits d → IsSpelling d (spelling d)
 spells_itself (DataBlock addr len) h = (refl, from_le_bytes-to_le_bytes_8 addr h.0, from_le_bytes-to_le_bytes_4 len h.1)
 spells_itself (BitBucket len) h = (refl, from_le_bytes-to_le_bytes_4 len h)
 spells_itself (Segment addr len) h = (refl, from_le_bytes-to_le_bytes_8 addr h.0, from_le_bytes-to_le_bytes_4 len h.1)
 spells_itself (LastSegment addr len) h = (refl, from_le_bytes-to_le_bytes_8 addr h.0, from_le_bytes-to_le_bytes_4 len h.1)
 
--- what bytes spell, they are read as
+-- bytes are read as what they spell
 pub found : (bytes : List ℕ) (d : Descriptor) → IsSpelling d bytes → descriptor_of bytes ≡ Some d
 unfolding descriptor_of
 found bytes (DataBlock addr len) h = rw (h.0, h.1, h.2) refl
@@ -19,12 +19,12 @@ found bytes (BitBucket len) h = rw (h.0, h.1) refl
 found bytes (Segment addr len) h = rw (h.0, h.1, h.2) refl
 found bytes (LastSegment addr len) h = rw (h.0, h.1, h.2) refl
 
--- no descriptor, where byte 15 is no type times 16
+-- no descriptor, where byte 15 is not a type times 16
 pub nothing : (bytes : List ℕ) → get_or bytes 15 0 ≢ 0x00 → get_or bytes 15 0 ≢ 0x10 → get_or bytes 15 0 ≢ 0x20 → get_or bytes 15 0 ≢ 0x30 → descriptor_of bytes ≡ None
 unfolding descriptor_of
 nothing bytes a b c d = grind arith
 
--- an invalid type is that of no descriptor
+-- no descriptor has an invalid type
 pub none_of : (bytes : List ℕ) → HasInvalidType bytes → descriptor_of bytes ≡ None
 none_of bytes (inl above) = nothing bytes (λ e. omega (arith, above, e)) (λ e. omega (arith, above, e)) (λ e. omega (arith, above, e)) (λ e. omega (arith, above, e))
 none_of bytes (inr other) =
@@ -52,7 +52,7 @@ valid_spells bytes h =
       ]
     ]
 
--- what bytes are read as, they spell
+-- bytes spell what they are read as
 pub spelled : (bytes : List ℕ) (d : Descriptor) → descriptor_of bytes ≡ Some d → IsSpelling d bytes
 spelled bytes d h = elim (valid_or_not bytes) [
   | inl valid ↦
@@ -62,7 +62,7 @@ spelled bytes d h = elim (valid_or_not bytes) [
   | inr invalid ↦ let none : descriptor_of bytes ≡ None = none_of bytes invalid in absurd cc
 ]
 
--- what is written of a descriptor whose fields fit is read as it
+-- what is written for a descriptor whose fields fit is read as it
 pub reads_itself : (d : Descriptor) → Fits d → descriptor_of (spelling d) ≡ Some d
 reads_itself d fits = found (spelling d) d (spells_itself d fits)
 

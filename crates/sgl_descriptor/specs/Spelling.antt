@@ -11,7 +11,7 @@ type_of bytes = slice_index bytes 15 / 16
 abbrev pub subtype_of : List ℕ → ℕ
 subtype_of bytes = slice_index bytes 15 % 16
 
--- the types are 0 to 3, each with subtype 0 alone
+-- the types are 0 to 3, each only with subtype 0
 abbrev pub HasValidType : List ℕ → Type 0
 HasValidType bytes = (type_of bytes ≤ 3) × (subtype_of bytes ≡ 0)
 
@@ -77,6 +77,6 @@ IsLink d = IsTrue (is_link d)
 abbrev pub IsReserved : ℕ → ℕ → Type 0
 IsReserved kind i = ((12 ≤ i) × (i ≤ 14)) ⊎ ((kind ≡ 1) × (i ≤ 7))
 
--- The same bytes, but for those that the type reserves. Byte 15 is never reserved, so both have one type.
+-- The same bytes, except those that the type reserves. Byte 15 is never reserved, so both have the same type.
 abbrev pub AgreeOutsideReserved : List ℕ → List ℕ → Type 0
 AgreeOutsideReserved a b = (i : ℕ) → i < 16 → ¬ IsReserved (type_of a) i → slice_index a i ≡ slice_index b i

@@ -8,7 +8,7 @@ abbrev pub descriptor_of_part : Part → Descriptor
 descriptor_of_part (Data addr len) = DataBlock addr len
 descriptor_of_part (Bucket len) = BitBucket len
 
--- how many bytes a descriptor counts: a Bit Bucket counts for a destination alone, and a link never
+-- how many bytes a descriptor counts: a Bit Bucket counts only for a destination, and a link never
 abbrev pub counted : Direction → Descriptor → ℕ
 counted dir (DataBlock addr len) = len
 counted Destination (BitBucket len) = len
@@ -21,7 +21,7 @@ abbrev pub counted_in : Direction → List Part → ℕ
 counted_in dir [] = 0
 counted_in dir (part ∷ parts) = counted dir (descriptor_of_part part) + counted_in dir parts
 
--- where a counted byte goes to or comes from: its place in memory, or nowhere
+-- where a counted byte goes to or comes from: its address in memory, or nowhere
 pub data Target : Type 0 where
   Place : ℕ → Target
   Discarded : Target

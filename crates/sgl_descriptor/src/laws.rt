@@ -8,19 +8,19 @@ ghost use Rattle.sgl_descriptor.specs.Spelling.{Fits};
 ghost use Rattle.sgl_descriptor.specs.Targets.{targets, counted_in};
 ghost use Rattle.sgl_descriptor.specs.Laws.{IsSixteenBytes, RoundTrip, OneSpelling, ReadAlike, TargetsJoin};
 
-/// What is written of a descriptor whose fields fit is 16 bytes, spells it, and is read as that descriptor.
+/// What is written for a descriptor whose fields fit is 16 bytes, spells it, and is read as that descriptor.
 pub fn round_trip()
     ensures { (d : Descriptor) → Fits d → RoundTrip d }
 {}
 
-/// Bytes spell one descriptor at most, the one that they are read as.
+/// Bytes spell at most one descriptor, the one that they are read as.
 #[tactic(auto, using(crate::proofs::Spells::both))]
 pub fn one_spelling()
     ensures { (bytes : List ℕ) → OneSpelling bytes }
 {}
 
 /// Two strings of 16 bytes, the first of a valid type and subtype, are read alike exactly where they agree outside the
-/// reserved bytes. One whose type or subtype is invalid is read alike with just those that are invalid too.
+/// reserved bytes. One whose type or subtype is invalid is read like exactly those that are invalid too.
 #[tactic(auto, using(crate::proofs::Reserved::alike))]
 pub fn read_alike()
     ensures { (a b : List ℕ) → IsSixteenBytes a → IsSixteenBytes b → ReadAlike a b }

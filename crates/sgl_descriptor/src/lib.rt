@@ -34,7 +34,7 @@ const LAST_SEGMENT: u8 = 0x30;
 /// Addresses are those of bytes in host memory, and lengths count bytes.
 #[derive(Clone, Copy, Debug, PartialEq, Eq)]
 pub enum Descriptor {
-    /// Data in memory: `len` bytes from `addr` on. A length of zero is valid and moves nothing.
+    /// Data in memory: `len` bytes starting at `addr`. A length of zero is valid and moves nothing.
     DataBlock {
         /// Where the data begins, with no alignment (own).
         addr: u64,
@@ -80,7 +80,7 @@ impl Descriptor {
         }
     }
 
-    /// The descriptor that 16 bytes spell (Base 2.0, section 4.1.2), whatever stands in those that are reserved (own).
+    /// The descriptor that 16 bytes spell (Base 2.0, section 4.1.2), whatever is in those that are reserved (own).
     ///
     /// # Errors
     ///
@@ -116,17 +116,17 @@ impl Descriptor {
     }
 }
 
-/// A part of a command's data, as one descriptor says it. Addresses are places in host memory, lengths count bytes.
+/// A part of a command's data, as one descriptor says it. Addresses are those of host memory, lengths count bytes.
 #[derive(Clone, Copy, Debug, PartialEq, Eq)]
 pub enum Part {
-    /// `len` bytes of memory, from `addr` on.
+    /// `len` bytes of memory, starting at `addr`.
     Data {
         /// Where the bytes begin.
         addr: u64,
         /// How many there are.
         len: u32,
     },
-    /// `len` bytes of a destination that are discarded. It is no part of a source's bytes.
+    /// `len` bytes of a destination that are discarded. It is not part of a source's bytes.
     Bucket {
         /// How many bytes are discarded.
         len: u32,

@@ -45,7 +45,7 @@ pub fn read_descriptors()
         ≡ None }
 {}
 
-/// The targets of a few parts, both ways.
+/// The targets of a few parts, in both directions.
 pub fn worked_targets()
     ensures destination { targets Destination (Data 0x4000 3 ∷ Bucket 2 ∷ Data 0x5000 1 ∷ []) ≡
         Place 0x4000 ∷ Place 0x4001 ∷ Place 0x4002 ∷ Discarded ∷ Discarded ∷ Place 0x5000 ∷ [] }

@@ -3,7 +3,7 @@ use Rattle.std.specs.{Int.bit_at, Prelude.{ℕ, ◌%◌, Bool, true, false, ◌=
 use Rattle.machine_model.specs.declared.words.{Reaped.{Reaped, TheVariants.{Done, AdminDone}}, Refusal.Refusal}
 use Rattle.shared.specs.declared.changes.{Change.Change, Change.TheVariants.{Room, Posted, Rung, Ended}, Changes.Changes}
 
--- whether two changes are one: the ends of two commands are, where their places have one remainder by sixteen
+-- whether two changes are one: the ends of two commands are, where their places have the same remainder modulo sixteen
 abbrev pub are_one : Change → Change → Bool
 are_one Room Room = true
 are_one Posted Posted = true
@@ -27,7 +27,7 @@ bit_of (Ended place) = place % 16
 abbrev pub is_told : Changes → Change → Bool
 is_told changes change = bit_at changes.bits (bit_of change) == 1
 
--- whether a reap of a queue that was answered so may have made a change: the end of the command that it tells, and of an admin command any
+-- whether a reap of a queue with this answer may have made a change: the end of the command that it tells, and of an admin command any
 abbrev pub is_of_reap : ℕ → Result Reaped Refusal → Change → Bool
 is_of_reap q (Ok (Done cid status)) change = are_one (Ended (bit_xor q cid % 16)) change
 is_of_reap q (Ok (AdminDone cid status dw0)) change = true

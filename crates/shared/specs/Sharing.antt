@@ -15,7 +15,7 @@ pub record Stepped (e : Event) (r : Reply) : Type 0 where
   pub sound : IsSound old
   pub step : Step old e r new
 
--- so of a step of the controller: in a trusted world each page that its reply tells is one that it may touch
+-- likewise of a step of the controller: in a trusted world each page that its reply tells is one that it may touch
 pub record Served (e : Event) (r : Reply) : Type 0 where
   pub old : State
   pub new : State
@@ -23,7 +23,7 @@ pub record Served (e : Event) (r : Reply) : Type 0 where
   pub step : Step old e r new
   pub allowed : StaysAllowed old e r
 
--- so of a reap of a queue that had a completion
+-- likewise of a reap of a queue that had a completion
 pub record ReapedNext (q : ℕ) (r : Reply) : Type 0 where
   pub old : State
   pub new : State
@@ -42,7 +42,7 @@ reply_of (Fetch q answer) = fetch_reply answer
 reply_of (Walk q cid answer) = walk_reply answer
 reply_of (Complete q cid answer) = complete_reply answer
 
--- so of a step of the controller that it could do: in a trusted world nothing but want of memory was against it
+-- likewise of a step of the controller that it could do: in a trusted world nothing but want of memory ruled it out
 pub record ServedNext (e : Event) (r : Reply) : Type 0 where
   pub old : State
   pub new : State

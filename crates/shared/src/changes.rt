@@ -6,7 +6,7 @@ ghost use Rattle.shared.specs.Changes.{are_one, bit_of, is_of_reap, is_told};
 use std::sync::Condvar;
 use step_core::{Reaped, Refusal};
 
-/// How many condition variables those share who wait for the end of a command.
+/// How many condition variables those who wait for the end of a command share.
 const PLACES: usize = 16;
 
 /// What a thread waits for. Whoever waits looks as it wakes, since it may be woken for another thread too.
@@ -27,7 +27,7 @@ pub enum Change {
 
 impl Change {
     /// The end of a command. Up to sixteen commands of one queue with the lowest identifiers have places of their own, and so have the commands
-    /// with one identifier of up to sixteen queues.
+    /// with one identifier of sixteen queues in a row from a multiple of sixteen on.
     pub fn end_of(q: u16, cid: u16) -> Change
         ensures { result ≡ Change.Ended (bit_xor q cid % 16) }
     {
@@ -49,21 +49,21 @@ impl Change {
     }
 }
 
-/// Changes that a call may make: who waits for one of them is told. More than were made do no harm, but wake threads that sleep on. [`Changes::ALL`]
-/// is always right. Fewer than were made leave a thread asleep.
+/// Changes that a call may make: whoever waits for one of them is told. More than were made do no harm, but wake threads that sleep on.
+/// [`Changes::ALL`] is always right. Fewer than were made leave a thread asleep.
 ///
 /// | What is done | Its changes |
 /// |---|---|
 /// | `cancel`, `release`, `delete_sq`, `create_cq`, `create_sq` | [`Changes::ROOM`] |
-/// | `reap` of an I/O queue | [`Changes::ENDED`], or behind it [`Changes::of_reap`]; of a host also [`Changes::RUNG`], as a head doorbell is told |
+/// | `reap` of an I/O queue | [`Changes::ENDED`], or after it [`Changes::of_reap`]; of a host also [`Changes::RUNG`], as a head doorbell is told |
 /// | `reap` of queue 0, `retire`, `reset` | [`Changes::ALL`] |
 /// | `ring` of a host, where a thread of yours plays the device | [`Changes::RUNG`] |
 /// | an interrupt of a device that writes by itself | [`Changes::POSTED`] |
 /// | everything else, `fetch`, `walk`, `complete` and `forge` too, and looks | [`Changes::NONE`] |
 ///
-/// Besides, who waits for a completion is told wherever one is there, and who waits for what the controller can do wherever it can do something:
-/// the lock looks at that itself, once somebody waits for it. Who waits for anything else by these names, as for a doorbell of a host, is told only
-/// where the change is named.
+/// Besides, whoever waits for a completion is told wherever one is there, and whoever waits for what the controller can do wherever it can do
+/// something: the lock looks at that itself, once somebody waits for it. Whoever waits for anything else by these names, as for a doorbell of a host,
+/// is told only where the change is named.
 #[derive(Clone, Copy)]
 pub struct Changes {
     /// Bit `i` is the end of a command of place `i`, and the three bits above those are the others.
@@ -96,7 +96,7 @@ impl Changes {
         Changes { bits: change.bit() }
     }
 
-    /// What a reap of a queue may have changed that was answered so: its command ended. An admin command that ended may have changed a queue.
+    /// What a reap of a queue with this answer may have changed: its command ended. An admin command that ended may have changed a queue.
     #[tactic(auto, using(crate::proofs::Bits::told_by_all))]
     pub fn of_reap(q: u16, answer: &Result<Reaped, Refusal>) -> Changes
         ensures { (change : Change) → is_told result change ≡ is_of_reap q answer.now change }
@@ -124,7 +124,7 @@ impl Changes {
         self.bits & change.bit() != 0
     }
 
-    /// Takes those out that are among others, and answers them.
+    /// Takes out those that are among others, and answers them.
     pub(crate) fn take(&mut self, others: Changes) -> Changes
         ensures taken { (change : Change) → is_told result change ≡ is_told self.old change && is_told others change }
         ensures left { (change : Change) → is_told self.new change ≡ is_told self.old change && not (is_told others change) }

@@ -6,17 +6,17 @@ use crate::changes::{Change, Changes, Condvars};
 use crate::machine::Machine;
 use std::sync::{Mutex, MutexGuard, Wait};
 
-/// What stands under the lock.
+/// What is under the lock.
 #[derive(Drop)]
 pub struct Locked<M: Drop> {
-    /// The machine. Who has the lock leaves it in its place.
+    /// The machine. Whoever has the lock leaves it in its place.
     pub machine: M,
     pub(crate) stopping: bool,
-    /// What somebody waits for who was not told since.
+    /// What those who were not told since wait for.
     awaited: Changes,
 }
 
-/// A machine under a lock. Who waits sleeps on a condition variable, and looks at the machine as it wakes.
+/// A machine under a lock. Whoever waits sleeps on a condition variable, and looks at the machine as it wakes.
 ///
 /// A closure that has the machine makes steps of it and looks at it, and leaves it in its place: it must not put another one there, which other threads
 /// would then take for this one. No clause forbids that.
@@ -39,7 +39,7 @@ impl<M: Machine + Drop> Shared<M> {
         }
     }
 
-    /// Takes the lock, for several steps in one hold, or for a step whose changes are known behind it. Who drops what this hands out, in the place of
+    /// Takes the lock, for several steps in one hold, or for a step whose changes are known after it. Whoever drops what this hands out, instead of
     /// [`Shared::leave`], wakes nobody.
     pub fn lock<R: Wait>(&self, rt: &R) -> MutexGuard<'_, Locked<M>>
         ensures { M.is (mutex_guard_value result).machine }
@@ -124,7 +124,7 @@ impl<M: Machine + Drop> Shared<M> {
     }
 
     /// Does so once the machine is ready for it, or the workers are told to stop. Whether it is ready is asked before the thread sleeps, and after each
-    /// change of this kind that is told. As long as it is not, asking must change nothing that others wait for.
+    /// change of this kind that is told. While it is not, asking must change nothing that others wait for.
     pub fn when<V, T, P: FnMut(&mut M, &V) -> bool, F: FnOnce(&mut M, V) -> T, R: Wait>(
         &self,
         rt: &R,

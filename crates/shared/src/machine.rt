@@ -1,4 +1,4 @@
-//! What may stand under the lock.
+//! What may be under the lock.
 
 /// Something that makes steps, which threads share under a lock. A user's own type may be one too.
 pub trait Machine {
@@ -12,11 +12,11 @@ pub trait Machine {
     fn confirm(&self)
         ensures { is self.now };
 
-    /// Whether a completion is there that would be reaped. Who waits for completions is told where it is. It makes no step.
+    /// Whether a completion is there that would be reaped. Whoever waits for completions is told where it is. It makes no step.
     fn can_reap(&mut self) -> bool
         ensures { stays self.old self.new };
 
-    /// Whether its controller can do something. Who waits for that is told where it can. It makes no step.
+    /// Whether its controller can do something. Whoever waits for that is told where it can. It makes no step.
     fn can_serve(&mut self) -> bool
         ensures { stays self.old self.new };
 }

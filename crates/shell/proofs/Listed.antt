@@ -1,4 +1,4 @@
--- Where each word stands in the table of the words with a dot.
+-- Where each word is in the table of the words with a dot.
 use Rattle.std.proofs.Common.{◌≡◌, ℕ, ◌<◌, slice_index_or, refl, lit<}
 use Rattle.shell.specs.declared.dot_word.{DotWord.{DotWord, TheVariants.{Help, Explain, Owners, Counts, Rings, Page, Trace, Serve, Read, Write, Save, Dump, Output, Open, Print, Quit}}, TheConstants.DOT_WORDS}
 

@@ -1,10 +1,10 @@
--- What is said of queues and bytes, one behind the other.
+-- What is said of queues and bytes, one after the other.
 use Rattle.std.proofs.Common.{arith, ◌≡◌, ◌≤◌, ◌+◌, ◌-◌, ℕ, zero, suc, List, refl, subst, append_assoc, append-nil, ◌++◌, ◌*◌, ◌<◌, ◌∙◌, length, [], take, drop, sym, ap, Bool, true, false, Option, Some, None, Result, Ok, Err, OnOk, nat_le}
 use Rattle.machine_model.specs.State.{State}
 use Rattle.shell.specs.{Pages.{rows_text, row_said, before_next, bytes_text, page_text}, Rings.{SaysRings, SaysAllRings}, declared.pages.Before.Before}
 use Rattle.page_ledger.specs.declared.owner.Owner.{Owner}
 
--- What is said of queues, one behind the other.
+-- What is said of queues, one after the other.
 
 pub said_next : (world : State) (n q : ℕ) (before mid after : List ℕ) → SaysAllRings world n q before mid → SaysRings world (q + n) mid after → SaysAllRings world (suc n) q before after
 said_next world zero q before mid after says one = (after, subst (λ (text : List ℕ). SaysRings world q text after) says (subst (λ (p : ℕ). SaysRings world p mid after) at one), refl)
@@ -27,7 +27,7 @@ said_behind world first q before mid after le says one =
     many : suc (q - first) ≡ q + 1 - first
     many = grind (arith, le)
 
--- Rows of bytes, one behind the other.
+-- Rows of bytes, one after the other.
 
 rows_step : (n : ℕ) (before : Before) (at : ℕ) (bytes : List ℕ) →
     rows_text (suc n) before at bytes ≡ row_said before at (take 16 bytes) ++ rows_text n (before_next before (take 16 bytes)) (at + 16) (drop 16 bytes)

@@ -83,7 +83,7 @@ pub whole : (telling : Telling) (t : Table) (script : List Numbered) (last : Tab
 whole telling t script last counted end a b c (unwell, is, (told, run, first)) tells second =
     (told ++ end, (told, end, unwell, run, tells, refl, is), appends_more a b c told end first second)
 
--- a whole text is a front of itself
+-- a whole text is a prefix of itself
 pub whole_is_cut : (telling : Telling) (t : Table) (script : List Numbered) (last : Table) (counted : ℕ) (a b : Option (List ℕ))
     → Gains a b (IsToldTo telling last counted t script) → Gains a b (IsFrontOfTold telling t script)
 whole_is_cut telling t script last counted a b (text, (told, end, unwell, run, tells, joined, is), first) =

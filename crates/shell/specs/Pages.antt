@@ -6,7 +6,7 @@ use Rattle.page_ledger.specs.declared.owner.Owner.{Owner, TheVariants.{Free, Que
 use Rattle.page_memory.specs.{Memory.bytes_at, Pages.byte_at}
 use Rattle.shell.specs.declared.pages.Before.{Before}
 
--- a byte, in two hexadecimal digits behind a space
+-- a byte, in two hexadecimal digits after a space
 abbrev pub byte_text : ℕ → List ℕ
 byte_text b = 32 ∷ digit_glyph true (b / 16) ∷ digit_glyph true (b % 16) ∷ []
 
@@ -14,7 +14,7 @@ abbrev pub row_bytes_text : List ℕ → List ℕ
 row_bytes_text [] = []
 row_bytes_text (b ∷ bs) = byte_text b ++ row_bytes_text bs
 
--- a place in a page, in three hexadecimal digits before a space
+-- an offset in a page, in three hexadecimal digits before a space
 abbrev pub place_text : ℕ → List ℕ
 place_text at = padded_integral (format_spec 32 0 4 3 (2 ^ 64 - 1)) false [] (digits 16 true at) ++ (32 ∷ [])
 
@@ -25,14 +25,14 @@ row_text at row = place_text at ++ (row_bytes_text row ++ (10 ∷ []))
 abbrev pub is_zeros : List ℕ → Bool
 is_zeros row = list_all (λ b. b == 0) row
 
--- what is said of a row behind another: its line; of rows of zeros that follow each other the first one's line, and `*` for the others
+-- what is said of a row after another: its line; of rows of zeros that follow each other the first one's line, and `*` for the others
 abbrev pub row_said : Before → ℕ → List ℕ → List ℕ
 row_said before at row = if is_zeros row && before.zeros then (if before.starred then [] else 42 ∷ 10 ∷ []) else row_text at row
 
 abbrev pub before_next : Before → List ℕ → Before
 before_next before row = record { zeros = is_zeros row; starred = is_zeros row && before.zeros }
 
--- what is said of so many rows of 16 bytes
+-- what is said of this many rows of 16 bytes
 unfoldable pub rows_text : ℕ → Before → ℕ → List ℕ → List ℕ
 rows_text zero before at bytes = []
 rows_text (suc n) before at bytes =

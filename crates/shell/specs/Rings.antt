@@ -43,7 +43,7 @@ host_completion_text host =
 abbrev pub completion_text : HostPositions → Option PostPositions → List ℕ
 completion_text host controller = host_completion_text host ++ posting_text controller
 
--- the name of the host's state of the queue, which no clause spells, stands where `name` does
+-- the name of the host's state of the queue, which no clause spells, is where `name` is
 abbrev pub state_text : List ℕ → ℕ → ℕ → List ℕ
 state_text name q outstanding =
     codes "queue " ++ (decimal q ++ (codes ": " ++ (name ++ (codes ", outstanding " ++ (decimal outstanding ++ (10 ∷ []))))))
@@ -56,14 +56,14 @@ abbrev pub rings_text : List ℕ → ℕ → Option Rings → List ℕ
 rings_text name q None = codes "there is no queue " ++ (decimal q ++ (10 ∷ []))
 rings_text name q (Some rings) = ring_text name q rings
 
--- what is said of a queue, behind a text
+-- what is said of a queue, after a text
 pub record SaysRings (world : State) (q : ℕ) (before after : List ℕ) : Type 0 where
   pub name : List ℕ
   pub rings : Option Rings
   pub are : AreRingsOf world q rings
   pub said : after ≡ before ++ rings_text name q rings
 
--- THE TEXT of the rings of so many queues, from one on: what is said of each, one behind the other
+-- THE TEXT of the rings of this many queues, starting at one: what is said of each, one after the other
 abbrev pub SaysAllRings : State → ℕ → ℕ → List ℕ → List ℕ → Type 0
 SaysAllRings world zero q before after = after ≡ before
 SaysAllRings world (suc n) q before after = (mid : List ℕ) × SaysRings world q before mid × SaysAllRings world n (q + 1) mid after

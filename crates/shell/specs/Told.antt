@@ -40,7 +40,7 @@ TellsLine telling t number line.Owners text unwell new =
     (owners : List Owner) × AreOwners t.world owners × TellsOwners telling number owners text × (unwell ≡ 0) × (new ≡ t)
 TellsLine telling t number line.Nothing text unwell new = (text ≡ []) × (unwell ≡ 0) × (new ≡ t)
 
--- so of lines, each over what the one before left
+-- the same of lines, each over what the one before left
 abbrev pub Told : Telling → Table → List Numbered → List ℕ → ℕ → Table → Type 0
 Told telling t [] text unwell new = (text ≡ []) × (unwell ≡ 0) × (new ≡ t)
 Told telling t (first ∷ rest) text unwell new =
@@ -59,7 +59,7 @@ abbrev pub Ends : Telling → List Numbered → Table → List ℕ → Type 0
 Ends telling [] last end = TellsCounts telling (counts_of last.world.host) end
 Ends telling (next ∷ rest) last end = end ≡ []
 
--- what stands where a run was cut off, told by the lines that were done: the front of what is told of these, with the counts where they are all
+-- what is written where a run was cut off, told by the lines that were done: a prefix of what is told of these, with the counts where they are all
 abbrev pub IsFrontOfTold : Telling → Table → List Numbered → List ℕ → Type 0
 IsFrontOfTold telling t script text =
     (done : List Numbered) × (left : List Numbered) × (last : Table) × (told : List ℕ) × (end : List ℕ) × (unwell : ℕ)

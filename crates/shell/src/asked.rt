@@ -106,7 +106,7 @@ fn number64(word: &[u8]) -> Result<u64, LineFault> {
     words.number64()
 }
 
-/// The words behind a word with a dot.
+/// The words after a word with a dot.
 #[derive(Drop)]
 struct Arguments<'a> {
     words: Words<'a>,
@@ -119,7 +119,7 @@ impl<'a> Arguments<'a> {
         self.words.take_first().map(text_of)
     }
 
-    /// Takes a word that is wanted.
+    /// Takes a required word.
     fn wanted(&mut self) -> Result<&'a str, Fault<'a>> {
         self.next().ok_or(Fault::Missing(self.dot))
     }
@@ -133,7 +133,7 @@ impl<'a> Arguments<'a> {
         Ok(Extent { q, slba, blocks })
     }
 
-    /// Sees that no word is left.
+    /// Checks that no word is left.
     fn end(&mut self) -> Result<(), Fault<'a>> {
         match self.next() {
             Some(word) => Err(Fault::Extra(word, self.dot)),
@@ -195,7 +195,7 @@ fn one<'a>(mut arguments: Arguments<'a>) -> Result<&'a str, Fault<'a>> {
     Ok(word)
 }
 
-/// What follows `.read`: a path, which is no number, or blocks.
+/// What follows `.read`: a path, which is not a number, or blocks.
 fn read(mut arguments: Arguments<'_>) -> Result<Asked<'_>, Fault<'_>> {
     let first = arguments.wanted()?;
     match arguments.next() {
@@ -233,7 +233,7 @@ fn open(behind: &str) -> Result<Asked<'_>, Fault<'_>> {
     }
 }
 
-/// What a word with a dot asks for, with the words behind it, and with the text behind it.
+/// What a word with a dot asks for, with the words after it, and with the text after it.
 fn asked_of_dot<'a>(alloc: Global, dot: DotWord, words: Words<'a>, behind: &'a str) -> Reading<'a> {
     let arguments = Arguments { words, dot };
     match dot {

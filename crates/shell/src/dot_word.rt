@@ -3,7 +3,7 @@
 ghost use Rattle.std.specs.Prelude.{◌≡◌, ◌≢◌, MatchOption};
 ghost use Rattle.shell.specs.DotWords.{form_of_word, name_of_word};
 
-/// A word with a dot: what a line begins with that is no step.
+/// A word with a dot: what a line begins with that is not a step.
 #[derive(Clone, Copy, Debug, PartialEq, Eq)]
 pub enum DotWord {
     /// `.help`

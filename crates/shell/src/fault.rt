@@ -9,17 +9,17 @@ use texts::faults::{Grammar, explain, nearest, word_from};
 /// What is wrong with a line.
 #[derive(Clone, Copy, Debug, PartialEq, Eq)]
 pub(crate) enum Fault<'a> {
-    /// It is too long or not ASCII, or it begins with no dot and is no line of a script.
+    /// It is too long or not ASCII, or it begins with no dot and is not a line of a script.
     Line(LineFault),
     /// Its first word begins with a dot, and is none of the shell's.
     UnknownWord(&'a str),
     /// An argument is missing.
     Missing(DotWord),
-    /// A word is not what stands there in the form.
+    /// A word is not what is there in the form.
     Bad(&'a str, DotWord),
     /// A word is left over.
     Extra(&'a str, DotWord),
-    /// A word is no option of a world.
+    /// A word is not an option of a world.
     BadOption(BadOption<'a>),
 }
 
@@ -96,7 +96,7 @@ impl Fault<'_> {
     }
 }
 
-/// Puts what is wrong with a line of a script. Of one that is too long, its front alone was kept.
+/// Puts what is wrong with a line of a script. Of one that is too long, only its first part was kept.
 fn put_line_fault(
     alloc: Global,
     out: &mut String,

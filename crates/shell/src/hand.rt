@@ -30,7 +30,7 @@ pub(crate) struct Hand<'a> {
     pub(crate) traces: bool,
 }
 
-/// What a step answered, as it is printed behind its verb.
+/// What a step answered, as it is printed after its verb.
 fn answer_text(alloc: Global, verb: Verb, reply: &Reply) -> Result<String, AllocError> {
     let mut line = String::new(alloc);
     append_reply(&mut line, 0, verb, reply)?;

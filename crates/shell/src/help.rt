@@ -6,12 +6,12 @@ use script_cli::{VERBS, Verb};
 use std::alloc::{AllocError, Global};
 use texts::faults::form_text;
 
-/// What stands between the words with a dot and the steps.
+/// What comes between the words with a dot and the steps.
 const STEPS: &str =
     "Each other line is a step of a script, and answers what `nvmesgl steps` prints for it:
 ";
 
-/// What stands behind all.
+/// What comes at the end.
 const KEYS: &str = "Lines that were typed come back with the arrow keys in: rlwrap nvmesgl shell
 ";
 

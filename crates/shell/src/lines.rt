@@ -17,7 +17,7 @@ fn unread(why: &io::Error) -> RunFault {
     }
 }
 
-/// Reads a line with its line feed; the last one may have none. It is empty at the end of input. Of a line that is too long its front is
+/// Reads a line with its line feed; the last one may have none. It is empty at the end of input. Of a line that is too long its first part is
 /// kept, which is too long as well, and the rest is passed over.
 pub(crate) fn read_line<B: BufRead>(reader: &mut B, line: &mut Vec<u8>) -> Result<(), RunFault> {
     line.clear();
@@ -70,7 +70,7 @@ impl Played {
 /// The lines of a session: those of a reader, and of the files that a line names.
 #[derive(Drop)]
 pub(crate) struct Lines {
-    /// The files, of which the last one is read.
+    /// The files; the last one is read.
     files: Vec<Played>,
     /// How many lines of the reader came.
     number: u32,

@@ -5,7 +5,7 @@ use entry_codec::status_names::Named;
 use std::alloc::{AllocError, Global};
 use texts::faults::nearest;
 
-/// Why a step is refused: what stands behind `refused`.
+/// Why a step is refused: what follows `refused`.
 pub const REFUSALS: [(&str, &str); 29] = [
     (
         "NoValue",
@@ -113,7 +113,7 @@ pub const REFUSALS: [(&str, &str); 29] = [
     ),
 ];
 
-/// What is wrong with a request: what stands behind `Bad`; and why a completion is rejected.
+/// What is wrong with a request: what follows `Bad`; and why a completion is rejected.
 pub const REASONS: [(&str, &str); 9] = [
     ("TooManyPieces", "a request has 1,024 pieces at most"),
     ("EmptyPiece", "a piece has length 0"),
@@ -285,7 +285,7 @@ fn meaning_of(name: &str) -> Option<(&'static str, &'static str)> {
     find_in(&FAULTS, name)
 }
 
-/// Puts the names of a table behind others.
+/// Puts the names of a table after others.
 fn push_names(
     names: &mut Vec<&'static str>,
     table: &[(&'static str, &'static str)],
@@ -348,7 +348,7 @@ fn put_table(
     Ok(())
 }
 
-/// All refusals and faults, each with a sentence: what `nvmesgl grammar` prints behind the verbs.
+/// All refusals and faults, each with a sentence: what `nvmesgl grammar` prints after the verbs.
 ///
 /// # Errors
 ///

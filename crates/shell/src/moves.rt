@@ -20,7 +20,7 @@ const BLOCK: u32 = 512;
 /// The most blocks of a command.
 const MOST_BLOCKS: u32 = 2_048;
 
-/// The pieces of so many blocks, each the whole of a page, but for the last one. There are none for more blocks than a command has.
+/// The pieces of this many blocks, each the whole of a page, but for the last one. There are none for more blocks than a command has.
 fn pieces_of(alloc: Global, blocks: u32) -> Result<Pieces, AllocError> {
     let mut pieces = Pieces::new(alloc);
     if blocks > MOST_BLOCKS {
@@ -72,7 +72,7 @@ impl Hand<'_> {
         Ok(None)
     }
 
-    /// Fills a draft of so many blocks. Where it is refused that is said, and why.
+    /// Fills a draft of this many blocks. Where it is refused that is said, and why.
     fn fill(
         &mut self,
         (q, cid): (u16, u16),
@@ -113,7 +113,7 @@ impl Hand<'_> {
         Ok(false)
     }
 
-    /// Fills a draft of so many blocks, builds and submits it.
+    /// Fills a draft of this many blocks, builds and submits it.
     fn send(
         &mut self,
         command: (u16, u16),

@@ -7,10 +7,10 @@ use std::alloc::AllocError;
 use step_core::{Owner, PageNo};
 use world_bench::Bench;
 
-/// How many bytes stand in a line.
+/// How many bytes are in a line.
 const WIDTH: usize = 16;
 
-/// What a row of bytes stands behind.
+/// What a row of bytes follows.
 #[derive(Clone, Copy)]
 struct Before {
     /// Whether the row before is of zeros.
@@ -26,7 +26,7 @@ fn say_byte(out: &mut String, byte: u8) -> Result<(), AllocError>
     write!(out, " {byte:02X}")
 }
 
-/// Says some bytes of a page, behind their place in it.
+/// Says some bytes of a page, after their offset in it.
 fn say_row(out: &mut String, at: usize, row: &[u8]) -> Result<(), AllocError>
     ensures { OnOk result (string_bytes out.new ≡ string_bytes out.old ++ row_text at row.now) }
 {
@@ -44,7 +44,7 @@ fn is_zeros(row: &[u8; WIDTH]) -> bool
     row.iter().all(|byte| *byte == 0)
 }
 
-/// Says a row of bytes; for the second of rows of zeros that follow each other it says `*`, and nothing for those behind it.
+/// Says a row of bytes; for the second of rows of zeros that follow each other it says `*`, and nothing for those after it.
 fn say_next(
     out: &mut String,
     at: usize,

@@ -5,10 +5,10 @@ use script_cli::{BLOCK_SIZE, FUA, LR, NSID, VECTOR, Verb, append_counts, append_
 use std::alloc::{AllocError, Global};
 use step_core::{Counts, Piece, Reply, Request, Step};
 
-/// The most bytes that a line of a script can fill any draft with: two digits each, behind `fill 65535 65535 `.
+/// The most bytes that a line of a script can fill any draft with: two digits each, after `fill 65535 65535 `.
 const MOST_FILLED: usize = 8_183;
 
-/// Puts bytes as hexadecimal digits, behind a blank; a zero where there is none.
+/// Puts bytes as hexadecimal digits, after a blank; a zero where there is none.
 fn put_hex(out: &mut String, bytes: &[u8]) -> Result<(), AllocError> {
     out.push(' ')?;
     for byte in bytes {
@@ -59,7 +59,7 @@ fn put_request(out: &mut String, request: &Request) -> Result<(), AllocError> {
     put_options(out, request)
 }
 
-/// Puts the words behind the verb of a step.
+/// Puts the words after the verb of a step.
 fn put_words(out: &mut String, step: &Step) -> Result<(), AllocError> {
     match step {
         Step::Reserve { q, request } => {
@@ -111,7 +111,7 @@ fn fits_line(step: &Step) -> bool {
 pub(crate) struct Record {
     /// Lines of a transcript.
     text: String,
-    /// Whether each step stands there.
+    /// Whether each step is there.
     is_whole: bool,
 }
 
@@ -188,7 +188,7 @@ impl Record {
         self.keep_lines(owners)
     }
 
-    /// The whole transcript, with the counts at its end; none where a step does not stand there, or where it is longer than one that is read.
+    /// The whole transcript, with the counts at its end; none where a step is not there, or where it is longer than one that is read.
     pub(crate) fn transcript(
         &self,
         alloc: Global,

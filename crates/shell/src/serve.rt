@@ -39,7 +39,7 @@ impl Hand<'_> {
         Ok(())
     }
 
-    /// Lets the controller fetch an entry. Want of memory is said always.
+    /// Lets the controller fetch an entry. Lack of memory is said always.
     fn fetch(&mut self, q: u16) -> Result<Option<u16>, AllocError> {
         if self.left == 0 {
             return Ok(None);

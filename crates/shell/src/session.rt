@@ -25,7 +25,7 @@ use step_core::{Config, Image, ImageError, Step};
 use texts::traces::Traced;
 use world_bench::Bench;
 
-/// What stands before a line on a terminal.
+/// What comes before a line on a terminal.
 const PROMPT: &str = "nvmesgl> ";
 
 /// How a session goes on.
@@ -403,7 +403,8 @@ impl Session {
 }
 
 /// Answers the lines of a reader over a world that it opens, each before the next one is read: the command `shell`. With `traces` each step says what
-/// it moved, until a line ends that. With `prompt`, something stands before each line. What is written is flushed before a line is read, and at the end.
+/// it moved, until a line ends that. With `prompt`, something comes before each line. What is written is flushed before a line is read, and at the
+/// end.
 ///
 /// # Errors
 ///

@@ -22,7 +22,7 @@ fn begin_file<R: Files>(rt: &R, path: &str) -> io::Result<()> {
     Ok(())
 }
 
-/// Puts a text behind what a file has.
+/// Adds a text after what a file has.
 fn put_behind<R: Files>(rt: &R, path: &str, text: &str) -> io::Result<()> {
     OpenOptions::new()
         .append(true)
@@ -30,7 +30,7 @@ fn put_behind<R: Files>(rt: &R, path: &str, text: &str) -> io::Result<()> {
         .write_all(text.as_bytes())
 }
 
-/// Puts a text behind what a file has, and answers a sentence where that fails.
+/// Adds a text after what a file has, and answers a sentence where that fails.
 fn append<R: AllocGlobal + Files>(
     rt: &R,
     path: &str,

@@ -175,7 +175,7 @@ fn script_in(alloc: Global, text: &[u8]) -> Result<Script, RunFault>
 /// # Errors
 ///
 /// A fault of the script, and then one of the opening; nothing is written then. [`RunFault::Memory`] where memory is refused, and not
-/// inside a step; [`RunFault::OutputFailed`] where a write or the flush fails. What was written by then is the front of what is written else.
+/// inside a step; [`RunFault::OutputFailed`] where a write or the flush fails. What was written by then is a prefix of what is written otherwise.
 pub fn tell_steps<W: Write>(
     alloc: Global,
     config: Config,

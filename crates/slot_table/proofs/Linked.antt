@@ -30,13 +30,13 @@ nodes = record {
   show_at = λ k _. refl;
 }
 
--- a node that stands where none stood is one more
+-- a node where there was none is one more
 pub more_of : {B : Type 0} (old : Option B) → old ≡ None → (before mid after : ℕ) → mid ≡ before + (if is_some old then 0 else 1) → after ≡ mid → before + 1 ≡ after
 more_of None is before mid after m a = omega (arith, m, a)
 more_of (Some x) is before mid after m a = absurd (none-some x (sym is))
 
 module _ {R : Type 0} where
-  -- a walk along the links finds the places
+  -- a walk along the links finds the slots
   walk-leads : (t : Thread R) (x : Option Place) (xs : List Place) (most : ℕ) → Leads (λ k. Some k) (after_of t) (before_of t) x xs None → length xs ≤ most → walk t (after_of t x) most ≡ xs
   walk-leads t x [] zero l fits = refl
   walk-leads t x [] (suc most) l fits = rw l.0 refl
@@ -70,7 +70,7 @@ module _ {R : Type 0} where
     pub value_at-rows : (k : Place) → value_at (rows_in t count) k.0 k.1 ≡ value_of t k
     value_at-rows k = rw rows-order (value_at-order nodes is.thread k)
 
-    -- the link at a row leads to the row behind
+    -- the link at a row leads to the next row
     pub behind-none : (k : Place) → value_of t k ≡ None → None ≡ place_behind (rows_in t count) k.0 k.1
     behind-none k empty = sym (place_behind-none (rows_in t count) k.0 k.1 (rows-empty k empty))
 
@@ -88,13 +88,13 @@ module _ {R : Type 0} where
       let threaded : IsThreaded t count = record { thread = leaves.threads } in
       record { threaded = threaded; rows_are = rows-order t count threaded ∙ leaves.rows_is }
 
-  -- what hangs on a map's entries alone stays where they stay
+  -- what depends on a map's entries alone stays where they stay
   pub same_entries : {S : Type 0} (P : Thread R → ℕ → Type 0) (m n : HashMap Place (Node R) S) (first last : Option Place) → n.entries ≡ m.entries
       → P (thread_of m first last) (hash_map_len m) → P (thread_of n first last) (hash_map_len n)
   same_entries P m n first last same p =
       subst (λ es. P (record { look = λ k. lookup (place_eq k) es; first = first; last = last }) (length es)) (sym same) p
 
-  -- the node of this place is another now, or gone
+  -- the node of this slot is now another, or gone
   abbrev pub Changes : (Place → Option (Node R)) → (Place → Option (Node R)) → Place → Option (Node R) → Type 0
   Changes old new k node = (z : Place) → new z ≡ cond (place_eq k z) node (old z)
 

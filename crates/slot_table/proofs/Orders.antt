@@ -1,4 +1,4 @@
--- Lists of places: which are among them, in what order, and how links lead through them as links change.
+-- Lists of slots: which are among them, in what order, and how links lead through them as links change.
 use Rattle.std.{proofs.Common.{◌≡◌, ◌≢◌, ◌⊎◌, List, [], ◌∷◌, ◌++◌, sym, ap, subst, refl, ◌∙◌, inl, inr, append-nil}, specs.List.AllByRecursion as All}
 use Rattle.slot_table.specs.Chains.{Lacks, AreDistinct, Leads}
 
@@ -23,24 +23,24 @@ module _ {X : Type 0} (P : X → Type 0) where
   each-two Q S f [] p q = tt
   each-two Q S f (x ∷ xs) p q = (f x p.0 q.0, each-two Q S f xs p.1 q.1)
 
--- the place stands between these
+-- the slot lies between these
 pub record IsBetween {K : Type 0} (k : K) (xs : List K) : Type 0 where
   pub front : List K
   pub back : List K
   pub parts : xs ≡ front ++ k ∷ back
 
 module _ {K P : Type 0} (at : K → P) where
-  -- the first of these places, or the end
+  -- the first of these slots, or the end
   abbrev pub first_or : P → List K → P
   first_or end [] = end
   first_or end (x ∷ xs) = at x
 
-  -- the last of these places, or the start
+  -- the last of these slots, or the start
   abbrev pub last_or : P → List K → P
   last_or start [] = start
   last_or start (x ∷ xs) = last_or (at x) xs
 
-  -- what holds of the start and of each place holds of the last
+  -- what holds of the start and of each slot holds of the last
   pub last_or-each : (Q : P → Type 0) (x : P) (xs : List K) → Q x → All (λ k. Q (at k)) xs → Q (last_or x xs)
   last_or-each Q x [] q all = q
   last_or-each Q x (y ∷ ys) q all = last_or-each Q (at y) ys all.0 all.1
@@ -49,7 +49,7 @@ module _ {K P : Type 0} (at : K → P) where
   first_or-each Q x [] q all = q
   first_or-each Q x (y ∷ ys) q all = all.0
 
-  -- what stands behind a front lacks the front's last
+  -- what comes after a prefix lacks the prefix's last
   pub Lacks-last_or : (x : P) (front back : List K) → AreDistinct at (front ++ back) → Lacks at x back → Lacks at (last_or x front) back
   Lacks-last_or x [] back d l = l
   Lacks-last_or x (y ∷ ys) back d l = Lacks-last_or (at y) ys back d.1 (each-back (λ z. at z ≢ at y) ys back d.0)
@@ -62,7 +62,7 @@ module _ {K P : Type 0} (at : K → P) where
   AreDistinct-back [] ys d = d
   AreDistinct-back (x ∷ xs) ys d = AreDistinct-back xs ys d.1
 
-  -- a place in the midst is not in front of itself
+  -- a slot in the middle is not before itself
   pub Lacks-before : (k : K) (front back : List K) → AreDistinct at (front ++ k ∷ back) → Lacks at (at k) front
   Lacks-before k [] back d = tt
   Lacks-before k (x ∷ xs) back d = (λ e. (each-back (λ z. at z ≢ at x) xs (k ∷ back) d.0).0 (sym e), Lacks-before k xs back d.1)
@@ -78,7 +78,7 @@ module _ {K P : Type 0} (at : K → P) where
   AreDistinct-push k [] d l = (tt, tt)
   AreDistinct-push k (x ∷ xs) d l = (each-append (λ z. at z ≢ at x) xs (k ∷ []) d.0 (λ e. l.0 (sym e), tt), AreDistinct-push k xs d.1 l.1)
 
-  -- a place is among these, or is not
+  -- a slot is among these, or is not
   pub find_place : ((x y : K) → (x ≡ y) ⊎ (at x ≢ at y)) → (k : K) (xs : List K) → Lacks at (at k) xs ⊎ IsBetween k xs
   find_place cases k [] = inl tt
   find_place cases k (x ∷ xs) =
@@ -122,14 +122,14 @@ module _ {K P : Type 0} (at : K → P) where
         let other : x ≢ p = λ e. last_or-each (λ z. z ≢ x) (at y) ys lx.0 lx.1 (sym is ∙ sym e) in
         ((sa x other xg ∙ l.0.0, sb.0 ∙ l.0.1), Leads-turned p q apart (at y) ys end sa f g is l.1 lg.0 dx.0 dx.1 lg.1 sb.1)
 
-    -- two places that a link joins, past a place apart
+    -- two slots that a link joins, past a slot apart
     pub record Skips (p q apart : P) : Type 0 where
       pub after : c p ≡ q
       pub before : d q ≡ p
       pub other_after : (z : P) → z ≢ p → z ≢ apart → c z ≡ a z
       pub other_before : (z : P) → z ≢ q → z ≢ apart → d z ≡ b z
 
-    -- a place behind the last
+    -- a slot after the last
     pub record Joins (end : P) (k : K) : Type 0 where
       pub after : c (b end) ≡ at k
       pub before : d (at k) ≡ b end
@@ -138,7 +138,7 @@ module _ {K P : Type 0} (at : K → P) where
       pub other_after : (z : P) → z ≢ b end → z ≢ at k → c z ≡ a z
       pub other_before : (z : P) → z ≢ end → z ≢ at k → d z ≡ b z
 
-    -- a place at the end of the list
+    -- a slot at the end of the list
     pub Leads-push : (end : P) (k : K) (order : List K) → Leads at a b end order end → Joins end k → end ≢ at k → Lacks at end order → Lacks at (at k) order → AreDistinct at order
         → Leads at c d end (order ++ k ∷ []) end
     Leads-push end k order l j other le lk dx =
@@ -146,7 +146,7 @@ module _ {K P : Type 0} (at : K → P) where
         (each-two (λ z. at z ≢ end) (λ z. at z ≢ at k) (λ z. d (at z) ≡ b (at z)) (λ z. j.other_before (at z)) order le lk) in
         Leads-append c d end order k [] end turned (j.end_after, j.end_before)
 
-    -- the list without a place
+    -- the list without a slot
     front-turned : (end : P) (k : K) (front back : List K) → Leads at a b end (front ++ k ∷ back) end → Skips (last_or end front) (first_or end back) (at k)
         → Lacks at end (front ++ k ∷ back)
         → AreDistinct at (front ++ k ∷ back) → Lacks at (first_or end back) front → Leads at c d end front (first_or end back)

@@ -6,7 +6,7 @@ use Rattle.std.{proofs.lemmas.{List.FromFn.{length-map-range_with_len, get_or-ma
 use Rattle.slot_table.{proofs.{Sets.{set-in, set-past}, Words.{zero-from, one-inside, lowest-of}}, specs.Bits.{is_one, is_set, IsPut}}
 use Rattle.slot_table.specs.{Places.{is_true_at, bools_of, IsSummed}, Searches.{IsFirstFrom, IsNoneFrom, IsRunEnd}}
 
--- the Bool of a place is its bit
+-- the Bool of a position is its bit
 
 pub length-bools : (words : List ℕ) (len : ℕ) → length (bools_of words len) ≡ len
 length-bools words len = length-map-range_with_len (is_set words) 0 len
@@ -36,12 +36,12 @@ summed-all words summary len most size all above sums = record {
   size = size;
   above = above;
   past = λ p past. all p ∙ le-ltb p len past;
-  sums = λ w. sums w ∙ go w (cases_lt w (length words));
+  sums = λ w. sums w ∙ by_presence w (cases_lt w (length words));
 }
   where
-    go : (w : ℕ) → (w < length words) ⊎ (length words ≤ w) → nat_lt w (length words) ≡ not (slice_index words w == 0)
-    go w (inr past) = le-ltb w (length words) past ∙ sym (ap (λ (n : ℕ). not (n == 0)) (get_or_past words w 0 past))
-    go w (inl inside) = lt-ltb w (length words) inside ∙ sym (ap (λ b. not b) (ne_eqb (slice_index words w) 0 some))
+    by_presence : (w : ℕ) → (w < length words) ⊎ (length words ≤ w) → nat_lt w (length words) ≡ not (slice_index words w == 0)
+    by_presence w (inr past) = le-ltb w (length words) past ∙ sym (ap (λ (n : ℕ). not (n == 0)) (get_or_past words w 0 past))
+    by_presence w (inl inside) = lt-ltb w (length words) inside ∙ sym (ap (λ b. not b) (ne_eqb (slice_index words w) 0 some))
       where
         some : slice_index words w ≡ 0 → ⊥
         some nothing =
@@ -49,7 +49,7 @@ summed-all words summary len most size all above sums = record {
             let none : is_set words (64 * w) ≡ false = set-in words w (64 * w) (omega arith) (omega arith) ∙ (ap (λ n. is_one n (64 * w - 64 * w)) nothing ∙ zero-from 0 _ (bit_at-zero _)) in
             true≢false (sym first ∙ none)
 
--- a list whose places were all made alike
+-- a list whose positions were all made alike
 
 pub bools-filled : (words : List ℕ) (len : ℕ) (value : Bool) → ((i : ℕ) → is_set words i ≡ (value && nat_lt i len)) → bools_of words len ≡ replicate len value
 bools-filled words len true all = bools-all words len all
@@ -70,17 +70,17 @@ summed-filled words summary len false most size all none above sums = record {
   sums = λ w. sums w ∙ sym (ap (λ (n : ℕ). not (n == 0)) (none refl w));
 }
 
--- one place written
+-- one position written
 
 pub bools-put : (words now : List ℕ) (len p : ℕ) (value : Bool) → p < len → IsPut words p value now → bools_of now len ≡ slice_set (bools_of words len) p value
 bools-put words now len p value inside put =
     ext_get_or false (bools_of now len) (slice_set (bools_of words len) p value)
     (length-bools now len ∙ sym (length-set (bools_of words len) p value ∙ length-bools words len))
-    (λ i within. let l : i < len = omega (arith, length-bools now len) in bool-inside now len i l ∙ go i l (cases_eq i p))
+    (λ i within. let l : i < len = omega (arith, length-bools now len) in bool-inside now len i l ∙ by_place i l (cases_eq i p))
   where
-    go : (i : ℕ) → i < len → (i ≡ p) ⊎ (i ≢ p) → is_set now i ≡ is_true_at (slice_set (bools_of words len) p value) i
-    go i l (inl same) = rw same (put.here ∙ sym (get_or-set_same (bools_of words len) p value false (omega (arith, length-bools words len))))
-    go i l (inr other) = put.others i other ∙ sym (get_or-set_other (bools_of words len) p i value false other ∙ bool-inside words len i l)
+    by_place : (i : ℕ) → i < len → (i ≡ p) ⊎ (i ≢ p) → is_set now i ≡ is_true_at (slice_set (bools_of words len) p value) i
+    by_place i l (inl same) = rw same (put.here ∙ sym (get_or-set_same (bools_of words len) p value false (omega (arith, length-bools words len))))
+    by_place i l (inr other) = put.others i other ∙ sym (get_or-set_other (bools_of words len) p i value false other ∙ bool-inside words len i l)
 
 pub summed-put : (words summary now above : List ℕ) (len p : ℕ) (value : Bool) → IsSummed words summary len → p < len → IsPut words p value now
     → IsPut summary (p / 64) (not (slice_index now (p / 64) == 0)) above → IsSummed now above len
@@ -89,12 +89,12 @@ summed-put words summary now above len p value summed inside put sum = record {
   size = put.size ∙ summed.size;
   above = sum.size ∙ (summed.above ∙ ap (λ (n : ℕ). (n + 63) / 64) (sym put.size));
   past = λ q past. put.others q (omega arith) ∙ summed.past q past;
-  sums = λ w. go w (cases_eq w (p / 64));
+  sums = λ w. by_word w (cases_eq w (p / 64));
 }
   where
-    go : (w : ℕ) → (w ≡ p / 64) ⊎ (w ≢ p / 64) → is_set above w ≡ not (slice_index now w == 0)
-    go w (inl same) = rw same sum.here
-    go w (inr other) = sum.others w other ∙ (summed.sums w ∙ ap (λ (n : ℕ). not (n == 0)) (sym (put.words w other)))
+    by_word : (w : ℕ) → (w ≡ p / 64) ⊎ (w ≢ p / 64) → is_set above w ≡ not (slice_index now w == 0)
+    by_word w (inl same) = rw same sum.here
+    by_word w (inr other) = sum.others w other ∙ (summed.sums w ∙ ap (λ (n : ℕ). not (n == 0)) (sym (put.words w other)))
 
 -- the lowest 1 by the words and their summary
 
@@ -130,7 +130,7 @@ first-above words summary len from next summed here above fits = record {
   after = omega (arith, above.after);
   passes = set-in words next (64 * next + place) (omega arith) (omega (arith, inside))
       ∙ subst (λ (j : ℕ). is_one (slice_index words next) j ≡ true) (omega arith) low.passes;
-  before = λ i from_i below. go i from_i below (cases_lt (i / 64) next);
+  before = λ i from_i below. by_order i from_i below (cases_lt (i / 64) next);
 }
   where
     place : ℕ
@@ -145,9 +145,9 @@ first-above words summary len from next summed here above fits = record {
     inside : place < 64
     inside = one-inside (slice_index words next) place fits low.passes
 
-    go : (i : ℕ) → from ≤ i → i < 64 * next + place → (i / 64 < next) ⊎ (next ≤ i / 64) → is_set words i ≡ false
-    go i from_i below (inl earlier) = none-in_words words summary len from i summed here from_i (λ l. above.before (i / 64) l earlier)
-    go i from_i below (inr same) =
+    by_order : (i : ℕ) → from ≤ i → i < 64 * next + place → (i / 64 < next) ⊎ (next ≤ i / 64) → is_set words i ≡ false
+    by_order i from_i below (inl earlier) = none-in_words words summary len from i summed here from_i (λ l. above.before (i / 64) l earlier)
+    by_order i from_i below (inr same) =
         set-in words next i (omega (arith, inside)) (omega (arith, inside)) ∙ low.before (i - 64 * next) (omega arith) (omega (arith, inside))
 
 -- a word that the summary names is in the list

@@ -1,4 +1,4 @@
--- Rows, those of a list of places, and what stands in a place.
+-- Rows, those of a list of slots, and what is in a slot.
 use Rattle.std.proofs.Common.{◌≡◌, ◌≢◌, ◌⊎◌, ℕ, suc, true, false, List, [], ◌∷◌, ◌++◌, length, Option, Some, None, is_some, IsSome, refl, sym, ap, inl, inr}
 use Rattle.std.{proofs.lemmas.Bool.eq-eqb, specs.List.AllByRecursion as All}
 use Rattle.slot_table.{proofs.Orders.first_or, specs.Chains.{rows_of, row_before, Lacks, AreDistinct, AreHeld}}
@@ -48,7 +48,7 @@ module _ {R : Type 0} where
   place_behind-none [] q cid none = refl
   place_behind-none (row ∷ rows) q cid none = rw none.0 (place_behind-none rows q cid none.1)
 
--- what stands for a place in the links and in the rows, and what a look at a link answers
+-- what stands for a slot in the links and in the rows, and what a look at a link answers
 pub record IsKind {K P : Type 0} (at : K → P) (place : K → ℕ × ℕ) (show : P → Option (ℕ × ℕ)) (end : P) : Type 0 where
   pub cases : (x y : K) → (x ≡ y) ⊎ (at x ≢ at y)
   pub apart : (x k : K) → at x ≢ at k → place_eq (place x) (place k) ≡ false
@@ -63,7 +63,7 @@ module _ {K R : Type 0} (place : K → ℕ × ℕ) (v : K → Option R) where
       (elim (v x) as (λ o. row_before place x o (rows_of place v xs ++ rows_of place v ys) ≡ row_before place x o
       (rows_of place v xs) ++ rows_of place v ys) [ None ↦ refl | Some value ↦ refl ])
 
-  -- places whose records stay
+  -- slots whose records stay
   pub rows_of-same : (w : K → Option R) (xs : List K) → All (λ z. w z ≡ v z) xs → rows_of place w xs ≡ rows_of place v xs
   rows_of-same w [] same = refl
   rows_of-same w (x ∷ xs) same = rw same.0 (ap (row_before place x (v x)) (rows_of-same w xs same.1))
@@ -73,7 +73,7 @@ module _ {K R : Type 0} (place : K → ℕ × ℕ) (v : K → Option R) where
   length-rows_of (x ∷ xs) h = let (value, has) = some_is (v x) h.0 in rw has (ap suc (length-rows_of xs h.1))
 
   module _ {P : Type 0} {at : K → P} {show : P → Option (ℕ × ℕ)} {end : P} (kind : IsKind at place show end) where
-    -- places that lack one have no row in it
+    -- slots that lack one have no row in it
     pub rows_of-none_at : (xs : List K) (k : K) → Lacks at (at k) xs → NoneAt (rows_of place v xs) (place k).0 (place k).1
     rows_of-none_at [] k l = tt
     rows_of-none_at (x ∷ xs) k l =
@@ -86,7 +86,7 @@ module _ {K R : Type 0} (place : K → ℕ × ℕ) (v : K → Option R) where
         let rest = rows_of-distinct xs d.1 in
         elim (v x) as (λ o. IsDistinct (row_before place x o (rows_of place v xs))) [ None ↦ rest | Some value ↦ (rows_of-none_at xs x d.0, rest) ]
 
-    -- the first row stands in the first of the places
+    -- the first row is in the first of the slots
     pub first_place-rows_of : (xs : List K) → Lacks at end xs → AreHeld v xs → first_place (rows_of place v xs) ≡ show (first_or at end xs)
     first_place-rows_of [] l h = sym kind.show_end
     first_place-rows_of (x ∷ xs) l h = let (value, has) = some_is (v x) h.0 in rw has (sym (kind.show_at x l.0))

@@ -12,14 +12,14 @@ pub put-word : (words : List ℕ) (i : ℕ) (inside : Bool) (word : ℕ) → i /
 put-word words i inside word within here others = record {
   size = length-set words (i / 64) word;
   here = ap (λ w. is_one w (i % 64)) (get_or-set_same words (i / 64) word 0 within) ∙ here;
-  others = λ j other. go j other (cases_eq (j / 64) (i / 64));
+  others = λ j other. by_word j other (cases_eq (j / 64) (i / 64));
   words = λ w other. get_or-set_other words (i / 64) w word 0 other;
 }
   where
-    go : (j : ℕ) → j ≢ i → (j / 64 ≡ i / 64) ⊎ (j / 64 ≢ i / 64) → is_set (slice_set words (i / 64) word) j ≡ is_set words j
-    go j other (inl same) =
+    by_word : (j : ℕ) → j ≢ i → (j / 64 ≡ i / 64) ⊎ (j / 64 ≢ i / 64) → is_set (slice_set words (i / 64) word) j ≡ is_set words j
+    by_word j other (inl same) =
         rw same (ap (λ w. is_one w (j % 64)) (get_or-set_same words (i / 64) word 0 within) ∙ others (j % 64) (omega arith) (omega arith))
-    go j other (inr apart) = ap (λ w. is_one w (j % 64)) (get_or-set_other words (i / 64) (j / 64) word 0 apart)
+    by_word j other (inr apart) = ap (λ w. is_one w (j % 64)) (get_or-set_other words (i / 64) (j / 64) word 0 apart)
 
 -- what a word says of its numbers
 
@@ -79,15 +79,15 @@ in_word i k rest here = elim (cases_lt (i % 64) rest) [
 -- a word of ones more at the end
 pub push-ones : (words : List ℕ) (k rest word : ℕ) → length words ≡ k → ((i : ℕ) → is_set words i ≡ nat_lt i (64 * k)) → rest ≤ 64 → word ≡ 2 ^ rest - 1
     → (i : ℕ) → is_set (words ++ word ∷ []) i ≡ nat_lt i (64 * k + rest)
-push-ones words k rest word size all inside ones i = go (cases_order (i / 64) k)
+push-ones words k rest word size all inside ones i = by_order (cases_order (i / 64) k)
   where
-    go : (i / 64 ≡ k) ⊎ ((i / 64 < k) ⊎ (k < i / 64)) → is_set (words ++ word ∷ []) i ≡ nat_lt i (64 * k + rest)
-    go (inl here) =
+    by_order : (i / 64 ≡ k) ⊎ ((i / 64 < k) ⊎ (k < i / 64)) → is_set (words ++ word ∷ []) i ≡ nat_lt i (64 * k + rest)
+    by_order (inl here) =
         ap (λ w. is_one w (i % 64)) (get_or_push words word 0 (i / 64) (size ∙ sym here) ∙ ones) ∙ (ones-are rest (i % 64) ∙ in_word i k rest here)
-    go (inr (inl before)) =
+    by_order (inr (inl before)) =
         ap (λ w. is_one w (i % 64)) (get_or_append_left words (word ∷ []) 0 (i / 64) (omega arith))
         ∙ (all i ∙ (lt-ltb i (64 * k) (omega arith) ∙ sym (lt-ltb i (64 * k + rest) (omega arith))))
-    go (inr (inr behind)) = set-past (words ++ word ∷ []) i (omega (arith, length_push words word)) ∙ sym (le-ltb i (64 * k + rest) (omega arith))
+    by_order (inr (inr behind)) = set-past (words ++ word ∷ []) i (omega (arith, length_push words word)) ∙ sym (le-ltb i (64 * k + rest) (omega arith))
 
 -- words of ones alone
 
@@ -99,17 +99,17 @@ filled-ones n word i ones = elim (cases_lt (i / 64) n) [
   | inr past ↦ set-past (replicate n word) i (omega (arith, length-replicate n word)) ∙ sym (le-ltb i (64 * n) (omega arith))
 ]
 
--- the last word of them cut down to so many ones
+-- the last word of them cut down to this many ones
 pub filled-cut : (n k rest word last i : ℕ) → k < n → rest ≤ 64 → word ≡ 2 ^ 64 - 1 → last ≡ 2 ^ rest - 1 → n ≤ k + 1
     → is_set (slice_set (replicate n word) k last) i ≡ nat_lt i (64 * k + rest)
-filled-cut n k rest word last i within inside ones cut least = go (cases_order (i / 64) k)
+filled-cut n k rest word last i within inside ones cut least = by_order (cases_order (i / 64) k)
   where
-    go : (i / 64 ≡ k) ⊎ ((i / 64 < k) ⊎ (k < i / 64)) → is_set (slice_set (replicate n word) k last) i ≡ nat_lt i (64 * k + rest)
-    go (inl here) =
+    by_order : (i / 64 ≡ k) ⊎ ((i / 64 < k) ⊎ (k < i / 64)) → is_set (slice_set (replicate n word) k last) i ≡ nat_lt i (64 * k + rest)
+    by_order (inl here) =
         ap (λ w. is_one w (i % 64)) (ap (slice_index (slice_set (replicate n word) k last)) here ∙ (get_or-set_same (replicate n word) k last 0 (omega (arith, length-replicate n word)) ∙ cut))
         ∙ (ones-are rest (i % 64) ∙ in_word i k rest here)
-    go (inr (inl before)) =
+    by_order (inr (inl before)) =
         ap (λ w. is_one w (i % 64)) (get_or-set_other (replicate n word) k (i / 64) last 0 (omega arith))
         ∙ (filled-ones n word i ones ∙ (lt-ltb i (64 * n) (omega arith) ∙ sym (lt-ltb i (64 * k + rest) (omega arith))))
-    go (inr (inr behind)) =
+    by_order (inr (inr behind)) =
         set-past (slice_set (replicate n word) k last) i (omega (arith, length-set (replicate n word) k last, length-replicate n word)) ∙ sym (le-ltb i (64 * k + rest) (omega arith))

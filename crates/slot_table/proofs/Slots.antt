@@ -27,7 +27,7 @@ slots places end = record {
   show_at = λ k other. rw (ne_eqb k end other) refl;
 }
 
--- a walk along the links finds the places
+-- a walk along the links finds the slots
 walk-leads : (ls : List Link) (end x : ℕ) (xs : List ℕ) (most : ℕ) → Leads (λ i. i) (after_of ls) (before_of ls) x xs end → Lacks (λ i. i) end xs → length xs ≤ most
     → walk ls end (after_of ls x) most ≡ xs
 walk-leads ls end x [] zero l lacks fits = refl
@@ -66,7 +66,7 @@ module _ {R : Type 0} where
         | Some value ↦ (div_below x (suc p) queues some b.0, mod_below x (suc p) some, rest)
       ]
 
-  -- rows inside the table have none in a place outside
+  -- rows inside the table have none in a slot outside
   AreInside-none_at : (queues places : ℕ) (rows : List (Row R)) (q cid : ℕ) → AreInside queues places rows → ((q < queues) × (cid < places) → ⊥) → NoneAt rows q cid
   AreInside-none_at queues places [] q cid inside outside = tt
   AreInside-none_at queues places (row ∷ rows) q cid inside outside = (
@@ -104,7 +104,7 @@ module _ {R : Type 0} where
         each_below [] h = tt
         each_below (x ∷ xs) h = (rw (← t.all_places) (some-within records x h.0), each_below xs h.1)
 
-    -- no row stands in a place that the table does not have
+    -- no row is in a slot that the table does not have
     pub rows-outside : (q cid : ℕ) → ((q < queues) × (cid < places) → ⊥) → NoneAt (rows_in places records links) q cid
     rows-outside q cid outside = AreInside-none_at queues places (rows_in places records links) q cid rows-inside outside
 
@@ -141,7 +141,7 @@ module _ {R : Type 0} where
     pub found_at : (o : Option R) → o ≡ get_or records place o → o ≡ value_at (rows_in places records links) q cid
     found_at o held = get_or_read records place o within held None ∙ rw (rows-order t) (sym (rw (queue-is, cid-is) at (value_at-order (kind t) t.thread place)))
 
-    -- a place that was found empty
+    -- a slot that was found empty
     pub none_left : (o : Option R) → o ≡ get_or records place o → o ≡ None → (set records place None ≡ records) × NoneAt (rows_in places records links) q cid
     none_left o held none =
         let empty : record_at records place ≡ None = sym (get_or_read records place o within held None) ∙ none in (
@@ -209,7 +209,7 @@ module _ {R : Type 0} where
         bounds : (before_of links place ≤ length records) × (after_of links place ≤ length records)
         bounds = neighbours (kind t) t.thread place value own (λ z. z ≤ length records) (omega arith) (λ z _ some. omega (arith, some-within records z some))
 
-        -- the neighbours of a place with a record are places of the table, or the end
+        -- the neighbours of a slot with a record are slots of the table, or the end
         pub link_in : (x.before < length links) × (x.after < length links)
         link_in = (omega (arith, link-read.0, bounds.0, t.all_links), omega (arith, link-read.1, bounds.1, t.all_links))
 
@@ -235,7 +235,7 @@ module _ {R : Type 0} where
             }) (sets None) in
             rw (none, rows-order t) (remade (len - 1) None new _ turned.as_long less (rw (queue-is, cid-is) at left))
 
-      -- a write through a reference to the record in a place
+      -- a write through a reference to the record in a slot
       pub write_left : (next : R) → Left len (Some next) links (with_value (rows_in places records links) q cid next)
       write_left next =
           let left = write (kind t) t.thread place value own (after_of links) (before_of links) (record_at (set records place (Some next))) next (λ _. refl) (λ _. refl) (sets (Some next)) in

@@ -1,4 +1,4 @@
--- Rows one behind the other: what a walk meets, and what a put and a take leave.
+-- Rows one after the other: what a walk meets, and what a put and a take leave.
 use Rattle.std.proofs.Common.{◌≡◌, ℕ, zero, suc, ◌≤◌, ◌==◌, true, false, List, [], ◌∷◌, ◌++◌, length, Some, None, take, drop, ◌+◌, refl, sym, ap, subst, ◌∙◌}
 use Rattle.std.proofs.Common.{inl, inr, arith, append_assoc}
 use Rattle.std.proofs.lemmas.{Bool.{eq-eqb, cases_Bool, Decides.{nat_tests}}, List.{append-nil, take-append-drop, drop-drop}, Option.none-some}
@@ -20,13 +20,13 @@ module _ {R : Type 0} where
   NoneAt-midst q cid [] back row none = none.0
   NoneAt-midst q cid (x ∷ xs) back row none = NoneAt-midst q cid xs back row none.1
 
-  -- no row in front stands in the place of one behind
+  -- no earlier row is in the slot of a later one
   pub front_none : (front back : List (Row R)) (row : Row R) → IsDistinct (front ++ row ∷ back) → NoneAt front row.q row.cid
   front_none [] back row d = tt
   front_none (x ∷ xs) back row d =
       (is_at-turned x row (NoneAt-midst x.q x.cid xs back row d.0), front_none xs back row d.1)
 
-  -- a place with no record has no row
+  -- a slot with no record has no row
   pub none_stands : (rows : List (Row R)) (q cid : ℕ) → value_at rows q cid ≡ None → NoneAt rows q cid
   none_stands [] q cid none = tt
   none_stands (row ∷ rows) q cid none =
@@ -35,7 +35,7 @@ module _ {R : Type 0} where
         | inr other ↦ (other, none_stands rows q cid (rw other at none))
       ]
 
-  -- at a row: its record, the row behind, and the rows without it
+  -- at a row: its record, the next row, and the rows without it
   pub value_at_row : (front back : List (Row R)) (row : Row R) → IsDistinct (front ++ row ∷ back) → value_at (front ++ row ∷ back) row.q row.cid ≡ Some row.value
   value_at_row front back row d =
       value_at-behind front (row ∷ back) row.q row.cid (front_none front back row d) ∙ (rw (is_at-itself row) refl)
@@ -64,7 +64,7 @@ module _ {R : Type 0} where
       let row : Row R = record { q = q; cid = cid; value = value } in
       without-behind table.rows (row ∷ []) q cid (none_stands table.rows q cid none) ∙ ap (λ rows. table.rows ++ rows) (rw (is_at-itself row) refl) ∙ append-nil table.rows
 
-  -- a walk from some row on
+  -- a walk starting at some row
   walk_on : (rows front back : List (Row R)) (most : ℕ) → IsDistinct rows → rows ≡ front ++ back → length back ≤ most → walk_from rows (first_place back) most ≡ places_of back
   walk_on rows front [] zero d is fits = refl
   walk_on rows front [] (suc most) d is fits = refl
@@ -77,7 +77,7 @@ module _ {R : Type 0} where
   pub walk_all : (rows : List (Row R)) (most : ℕ) → IsDistinct rows → length rows ≤ most → walk_from rows (first_place rows) most ≡ places_of rows
   walk_all rows most d fits = walk_on rows [] rows most d refl fits
 
-  -- the place behind that of the first of these rows
+  -- the slot after that of the first of these rows
   step_over : (rows front back : List (Row R)) (q cid : ℕ) → IsDistinct rows → rows ≡ front ++ back → first_place back ≡ Some (q, cid) → place_behind rows q cid ≡ first_place (drop 1 back)
   step_over rows front [] q cid d is at = absurd (none-some (q, cid) at)
   step_over rows front (row ∷ back) q cid d is at =

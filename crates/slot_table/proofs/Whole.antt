@@ -11,7 +11,7 @@ use Rattle.slot_table.proofs.Walks.{value_at_row, without_row, with_value-row, p
 use Rattle.slot_table.specs.Chains.{Threads, Leads, Lacks, AreDistinct, AreHeld, rows_of, row_before}
 use Rattle.slot_table.specs.Rows.{Row, value_at, without, with_value, with_last, place_behind, first_place, NoneAt, IsDistinct}
 
--- one place has another record, or none
+-- one slot has another record, or none
 pub record Sets {K P R : Type 0} (at : K → P) (old new : K → Option R) (k : K) (r : Option R) : Type 0 where
   pub own : new k ≡ r
   pub others : (z : K) → at z ≢ at k → new z ≡ old z
@@ -32,7 +32,7 @@ module _ {K P R : Type 0} {at : K → P} {place : K → ℕ × ℕ} {show : P �
   pub first-order : first_place (rows_of place v is.order) ≡ show (a end)
   first-order = first_place-rows_of place v kind is.order is.apart is.held ∙ ap show (sym (Leads-after at a b end is.order end is.leads))
 
-  -- no row stands in an empty place
+  -- no row is in an empty slot
   pub order-lacks : (k : K) → v k ≡ None → Lacks at (at k) is.order
   order-lacks k empty =
       elim (find_place at kind.cases k is.order) [
@@ -43,7 +43,7 @@ module _ {K P R : Type 0} {at : K → P} {place : K → ℕ × ℕ} {show : P �
   pub order-empty : (k : K) → v k ≡ None → NoneAt (rows_of place v is.order) (place k).0 (place k).1
   order-empty k empty = rows_of-none_at place v kind is.order k (order-lacks k empty)
 
-  -- where a place has a record, the rows are those in front, its own and those behind
+  -- where a slot has a record, the rows are those before, its own and those after
   module _ (k : K) (value : R) (has : v k ≡ Some value) where
     pub between : IsBetween k is.order
     between =
@@ -82,7 +82,7 @@ module _ {K P R : Type 0} {at : K → P} {place : K → ℕ × ℕ} {show : P �
     after-is : a (at k) ≡ first_or at end between.back
     after-is = Leads-after at a b (at k) between.back end (Leads-parts at a b end between.front k between.back end leads).1
 
-    -- the link at a row leads to the row behind
+    -- the link at a row leads to the next row
     pub behind-order : place_behind (rows_of place v is.order) (place k).0 (place k).1 ≡ show (a (at k))
     behind-order =
         ap (λ rows. place_behind rows (place k).0 (place k).1) parts
@@ -91,7 +91,7 @@ module _ {K P R : Type 0} {at : K → P} {place : K → ℕ × ℕ} {show : P �
         (each-back (λ z. IsSome (v z)) between.front (k ∷ between.back) held).1
         ∙ ap show (sym after-is)
 
-    -- what holds of the end and of each other place holds of the neighbours
+    -- what holds of the end and of each other slot holds of the neighbours
     pub neighbours : (Q : P → Type 0) → Q end → ((z : K) → at z ≢ at k → IsSome (v z) → Q (at z)) → Q (b (at k)) × Q (a (at k))
     neighbours Q e each =
         let all : All (λ z. Q (at z)) (between.front ++ between.back) =
@@ -169,7 +169,7 @@ module _ {K P R : Type 0} {at : K → P} {place : K → ℕ × ℕ} {show : P �
             ∙ value_at_row (rows_of place v (between k value has).front) (rows_of place v (between k value has).back) (row k value has) (rows-distinct k value has) ∙ sym has
       ]
 
-  -- what holds of the end and of each place with a record holds of the last and of the first
+  -- what holds of the end and of each slot with a record holds of the last and of the first
   pub ends-each : (Q : P → Type 0) → Q end → ((z : K) → IsSome (v z) → Q (at z)) → Q (b end) × Q (a end)
   ends-each Q e each =
       let all : All (λ z. Q (at z)) is.order = each-two (λ z. at z ≢ end) (λ z. IsSome (v z)) (λ z. Q (at z)) (λ z _. each z) is.order is.apart is.held in (

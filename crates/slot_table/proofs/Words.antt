@@ -1,4 +1,4 @@
--- The bits of one word: the lowest 1 from a place on, a bit that is set or cleared, and the word of so many ones.
+-- The bits of one word: the lowest 1 starting at a position, a bit that is set or cleared, and the word of this many ones.
 use Rattle.std.proofs.Common.{◌≡◌, ◌≢◌, ℕ, ◌+◌, ◌-◌, ◌*◌, ◌/◌, ◌%◌, ◌^◌, ◌<◌, ◌≤◌, ◌==◌, inl, inr, true, false, not, refl, ap, sym, ◌∙◌, arith, subst, w64, bit_and, bit_or, nat_lt}
 use Rattle.std.proofs.lemmas.{Bool.{true≢false, cases_lt, cases_eq, lt-ltb, le-ltb}, Nat.{shr-shr, shr_le}}
 use Rattle.std.proofs.lemmas.Nat.Bits.{bit_at-zero, bit_at-trailing_zeros, bit_at_above, bit_at_ones, bit_at_ones_above, bit_at_set_same, bit_at_set_other, bit_at_clear_same, bit_at_clear_other, bit_at_not, bit_at-lt}
@@ -63,7 +63,7 @@ one-cleared word place inside = zero-from _ place (bit_at_clear_same w64 word pl
 pub others-cleared : (word place i : ℕ) → place < 64 → i < 64 → i ≢ place → is_one (bit_and word (bit_not w64 (1 * 2 ^ place % 2 ^ 64))) i ≡ is_one word i
 others-cleared word place i inside within other = ap (λ b. b == 1) (bit_at_clear_other w64 word place inside i within other)
 
--- the word of so many ones
+-- the word of this many ones
 
 pub ones-are : (n i : ℕ) → is_one (2 ^ n - 1) i ≡ nat_lt i n
 ones-are n i = elim (cases_lt i n) [
@@ -74,10 +74,10 @@ ones-are n i = elim (cases_lt i n) [
 -- the other bits of a word
 
 pub flipped : (word i : ℕ) → word < 2 ^ 64 → i < 64 → is_one (bit_not w64 word) i ≡ not (is_one word i)
-flipped word i fits inside = ap (λ b. b == 1) (bit_at_not w64 word i fits inside) ∙ go (bit_at word i) (bit_at-lt word i)
+flipped word i fits inside = ap (λ b. b == 1) (bit_at_not w64 word i fits inside) ∙ by_bit (bit_at word i) (bit_at-lt word i)
   where
-    go : (b : ℕ) → b < 2 → ((1 - b) == 1) ≡ not (b == 1)
-    go b l = elim (cases_eq b 0) [
+    by_bit : (b : ℕ) → b < 2 → ((1 - b) == 1) ≡ not (b == 1)
+    by_bit b l = elim (cases_eq b 0) [
       | inl e ↦ subst (λ (b : ℕ). ((1 - b) == 1) ≡ not (b == 1)) (sym e) refl
       | inr e ↦ let same : 1 ≡ b = omega arith in subst (λ (b : ℕ). ((1 - b) == 1) ≡ not (b == 1)) same refl
     ]

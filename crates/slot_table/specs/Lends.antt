@@ -3,12 +3,12 @@ use Rattle.std.specs.{Borrow.{Lends, LendsIf, Fml, RattleType, MutBor}, Prelude.
 use Rattle.slot_table.specs.{Rows.{with_value, Row}, Table.TableOf, contracts.{linked_table.LinkedTable.the_row as linked_row, table.SlotTable.the_row}}
 use Rattle.std.specs.contracts.option.Option as std_option
 
--- the place ends with the last record written through r
+-- the slot ends with the last record written through r
 abbrev pub lends_content : (R : RattleType) → MutBor (Option R.Denot) → MutBor R.Denot → Fml
 lends_content R slot r = Lends (std_option.the_row R) R slot r (λ value. Some value)
 
 module _ (R A : RattleType) (alloc : Ghosts A.Denot) (s : MutBor (TableOf R.Denot)) (q cid : ℕ) where
-  -- once the borrow ends, the row of the place has the last record written through r
+  -- once the borrow ends, the row of the slot has the last record written through r
   abbrev pub lends_record : MutBor R.Denot → Fml
   lends_record r =
       Lends (the_row R A alloc) R s r (λ value. record s.now { rows = with_value s.now.rows q cid value })

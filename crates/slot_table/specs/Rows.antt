@@ -1,8 +1,8 @@
--- Rows: records with the queue and the identifier of their places, in the order in which they were put.
+-- Rows: records with the queue and the identifier of their slots, in the order in which they were put.
 use Rattle.std.specs.Coded.{Coded, code_by, coded×, coded_ℕ}
 use Rattle.std.specs.Prelude.{◌≡◌, ℕ, ◌&&◌, ◌==◌, Bool, false, if◌then◌else◌, List, [], ◌∷◌, ◌++◌, Option, Some, None, refl}
 
--- a record with the queue and the identifier of its place
+-- a record with the queue and the identifier of its slot
 pub record Row (R : Type 0) : Type 0 where
   pub q : ℕ
   pub cid : ℕ
@@ -19,46 +19,46 @@ row_code {R} code =
     (λ _. refl)
 
 module _ {R : Type 0} where
-  -- the row stands in this place
+  -- the row is in this slot
   abbrev pub is_at : Row R → ℕ → ℕ → Bool
   is_at row q cid = (row.q == q) && (row.cid == cid)
 
-  -- the record in this place
+  -- the record in this slot
   abbrev pub value_at : List (Row R) → ℕ → ℕ → Option R
   value_at [] q cid = None
   value_at (row ∷ rows) q cid = if is_at row q cid then Some row.value else value_at rows q cid
 
-  -- the rows but for the one in this place
+  -- the rows but for the one in this slot
   abbrev pub without : List (Row R) → ℕ → ℕ → List (Row R)
   without [] q cid = []
   without (row ∷ rows) q cid = if is_at row q cid then rows else row ∷ without rows q cid
 
-  -- the rows with another record in this place, if one stands there
+  -- the rows with another record in this slot, if one is there
   abbrev pub with_value : List (Row R) → ℕ → ℕ → R → List (Row R)
   with_value [] q cid value = []
   with_value (row ∷ rows) q cid value =
       if is_at row q cid then record row { value = value } ∷ rows else row ∷ with_value rows q cid value
 
-  -- the rows with one more, behind the others
+  -- the rows with one more, after the others
   abbrev pub with_last : List (Row R) → ℕ → ℕ → R → List (Row R)
   with_last rows q cid value = rows ++ record { q = q; cid = cid; value = value } ∷ []
 
-  -- no row stands in this place
+  -- no row is in this slot
   abbrev pub NoneAt : List (Row R) → ℕ → ℕ → Type 0
   NoneAt [] q cid = Unit {0}
   NoneAt (row ∷ rows) q cid = (is_at row q cid ≡ false) × NoneAt rows q cid
 
-  -- at most one row stands in a place
+  -- at most one row is in a slot
   abbrev pub IsDistinct : List (Row R) → Type 0
   IsDistinct [] = Unit {0}
   IsDistinct (row ∷ rows) = NoneAt rows row.q row.cid × IsDistinct rows
 
-  -- the place of the first row
+  -- the slot of the first row
   abbrev pub first_place : List (Row R) → Option (ℕ × ℕ)
   first_place [] = None
   first_place (row ∷ rows) = Some (row.q, row.cid)
 
-  -- the place of the row behind the one in this place
+  -- the slot of the row after the one in this slot
   abbrev pub place_behind : List (Row R) → ℕ → ℕ → Option (ℕ × ℕ)
   place_behind [] q cid = None
   place_behind (row ∷ rows) q cid =

@@ -1,8 +1,8 @@
--- What a contract sees of a table whose places are made at the opening.
+-- What a contract sees of a table whose slots are made at the opening.
 use Rattle.std.specs.{Coded.{Coded, code_by, coded×, coded_ℕ, coded_list}, Prelude.{ℕ, ◌<◌, List, [], ◌∷◌, refl}}
 use Rattle.slot_table.specs.Rows.{Row, row_code, with_last}
 
--- how many queues there are, how many places each has, and the rows in the order in which they were put
+-- how many queues there are, how many slots each has, and the rows in the order in which they were put
 pub record TableOf (R : Type 0) : Type 0 where
   pub queues : ℕ
   pub places : ℕ
@@ -19,16 +19,16 @@ table_code {R} code =
     (λ _. refl)
 
 module _ {R : Type 0} where
-  -- the table has this place
+  -- the table has this slot
   pub record IsPlace (table : TableOf R) (q cid : ℕ) : Type 0 where
     pub queue : q < table.queues
     pub identifier : cid < table.places
 
-  -- the table with one row more, behind the others
+  -- the table with one row more, after the others
   abbrev pub with_row : TableOf R → ℕ → ℕ → R → TableOf R
   with_row table q cid value = record table { rows = with_last table.rows q cid value }
 
-  -- each row stands in one of so many places of one of so many queues
+  -- each row is in one of the given slots of one of the given queues
   abbrev pub AreInside : ℕ → ℕ → List (Row R) → Type 0
   AreInside queues places [] = Unit {0}
   AreInside queues places (row ∷ rows) =

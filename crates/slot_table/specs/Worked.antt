@@ -1,4 +1,4 @@
--- A small table: two queues of three places, with numbers as records.
+-- A small table: two queues of three slots, with numbers as records.
 use Rattle.std.specs.Prelude.{ℕ, []}
 use Rattle.slot_table.specs.{Rows.{Row, without}, Table.{TableOf, with_row}}
 

@@ -1,4 +1,4 @@
-//! The list: a bit for each place in words of 64, and a summary of them with a bit for each word.
+//! The list: a bit for each position in words of 64, and a summary of them with a bit for each word.
 
 ghost use Rattle.std.specs.Prelude.{◌≡◌, ◌+◌, ◌<◌, ◌≤◌, Bool, true, length, replicate, slice_set, IfOk, IfSome};
 ghost use Rattle.slot_table.specs.Places.{is_true_at};
@@ -28,7 +28,7 @@ impl<A: Allocator> Model for BitList<A> {
 }
 
 impl<A: Allocator + Clone> BitList<A> {
-    /// A list of so many places, all of them true.
+    /// A list of this many Bools, all of them true.
     ///
     /// # Errors
     ///
@@ -48,7 +48,7 @@ impl<A: Allocator + Clone> BitList<A> {
 }
 
 impl<A: Allocator> BitList<A> {
-    /// Makes a place true, or false.
+    /// Makes a position true, or false.
     pub fn set(&mut self, i: u32, value: bool)
         requires { i < length self.old }
         ensures { self.new ≡ slice_set self.old i value }
@@ -59,7 +59,7 @@ impl<A: Allocator> BitList<A> {
         put(&mut self.summary, word, some);
     }
 
-    /// Makes every place true, or every place false.
+    /// Makes every position true, or every position false.
     pub fn fill(&mut self, value: bool)
         ensures filled { self.new ≡ replicate (length self.old) value }
     {
@@ -67,7 +67,7 @@ impl<A: Allocator> BitList<A> {
         fill_below(&mut self.summary, self.words.len() as u32, value);
     }
 
-    /// The lowest true place, from one on.
+    /// The lowest true position, at or after another.
     pub fn lowest_from(&self, from: u32) -> Option<u32>
         ensures lowest { FindsFrom (is_true_at self.now) from result }
         ensures inside { IfSome result (λ i. i < 65536) }
@@ -83,7 +83,7 @@ impl<A: Allocator> BitList<A> {
         Some(64 * next + self.words[next as usize].trailing_zeros())
     }
 
-    /// The first place of the lowest run of `k` consecutive true places.
+    /// The first position of the lowest run of `k` consecutive true positions.
     pub fn lowest_run(&self, k: u32) -> Option<u32>
         requires { 0 < k }
         ensures { FindsFrom (is_run (is_true_at self.now) k) 0 result }

@@ -55,7 +55,7 @@ pub(crate) fn put(words: &mut [u64], i: u32, inside: bool)
     }
 }
 
-/// The lowest 1 of a word, at a place or higher.
+/// The lowest 1 of a word, at a position or higher.
 pub(crate) fn lowest_one(word: u64, place: u32) -> Option<u32>
     requires { place < 64 }
     ensures one { FindsFrom (is_one word) place result }
@@ -68,7 +68,7 @@ pub(crate) fn lowest_one(word: u64, place: u32) -> Option<u32>
     Some(place + rest.trailing_zeros())
 }
 
-/// The lowest number of a set, from one on.
+/// The lowest number of a set, at or above a bound.
 pub(crate) fn lowest_from(words: &[u64], from: u32) -> Option<u32>
     requires { length words.now ≤ 1024 }
     ensures { FindsFrom (is_set words.now) from result }
@@ -83,7 +83,7 @@ pub(crate) fn lowest_from(words: &[u64], from: u32) -> Option<u32>
     None
 }
 
-/// Where the numbers of a set that follow one another from one on end: at the first that isn't inside, or at a limit.
+/// Where the consecutive numbers of a set from a given one end: at the first that isn't inside, or at a limit.
 pub(crate) fn run_end(words: &[u64], from: u32, limit: u32) -> u32
     requires few { length words.now ≤ 1024 }
     requires order { from ≤ limit }

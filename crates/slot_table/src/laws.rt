@@ -7,8 +7,8 @@ ghost use Rattle.slot_table.specs.Rows.{Row, IsDistinct, first_place, place_behi
 ghost use Rattle.slot_table.specs.Walks.{places_of, walk_from};
 ghost use Rattle.slot_table.specs.Worked.{row_of, opened, two_put, one_taken, put_again};
 
-/// A record that was put into an empty place comes back by a take, and leaves the table as it was before the put. A record that was
-/// taken and is put again stands behind all others.
+/// A record that was put into an empty slot comes back by a take, and leaves the table as it was before the put. A record that was
+/// taken and is put again comes after all others.
 #[tactic(auto, using(crate::proofs::Walks::put_value, crate::proofs::Walks::put_taken))]
 pub fn taken_comes_back<R>()
     ensures value { (table : TableOf R) (q cid : ℕ) (value : R) → value_at table.rows q cid ≡ None
@@ -19,8 +19,8 @@ pub fn taken_comes_back<R>()
         → (with_row (record table { rows = without table.rows row.q row.cid }) row.q row.cid row.value).rows ≡ front ++ back ++ row ∷ [] }
 {}
 
-/// A walk meets each row once, in the order of the rows, and then ends: it stands at each row in turn. Where it stands at a row, the rows behind are those that it
-/// has not met, also after that row was taken.
+/// A walk meets each row once, in the order of the rows, and then ends: it stands at each row in turn. Where it stands at a row, the rows after it
+/// are those that it has not met, also after that row was taken.
 #[tactic(auto, using(crate::proofs::Walks::walk_all, crate::proofs::Walks::place_behind_row, crate::proofs::Walks::step_behind, crate::proofs::Walks::value_at_row, crate::proofs::Walks::without_row))]
 pub fn walk_meets_each_row<R>()
     ensures walk { (rows : List (Row R)) (most : ℕ) → IsDistinct rows → length rows ≤ most

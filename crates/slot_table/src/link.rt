@@ -1,10 +1,10 @@
-//! The list that is threaded through the places of a table.
+//! The list that is threaded through the slots of a table.
 
 ghost use Rattle.std.specs.Prelude.{◌<◌, vec_len};
 
 use std::alloc::Allocator;
 
-/// The places before and after a place in the list. The number of places stands for the list's end, on both sides.
+/// The slots before and after a slot in the list. The number of slots stands for the list's end, on both sides.
 #[derive(Clone, Copy)]
 pub(crate) struct Link {
     pub(crate) before: u32,
@@ -14,7 +14,7 @@ pub(crate) struct Link {
 impl Link {
     ghost use Rattle.slot_table.specs.Links.{Rejoins};
 
-    /// Makes `after` the place that follows `before`.
+    /// Makes `after` the slot that follows `before`.
     pub(crate) fn join<A: Allocator>(links: &mut Vec<Link, A>, before: u32, after: u32)
         requires before_in { before < vec_len links.old }
         requires after_in { after < vec_len links.old }

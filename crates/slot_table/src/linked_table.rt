@@ -1,4 +1,4 @@
-//! The table of records whose places are too many to make at the opening: a hash map whose nodes name the one before and the one after.
+//! The table of records whose slots are too many to make at the opening: a hash map whose nodes name the one before and the one after.
 
 ghost use Rattle.std.specs.Prelude.{◌≡◌, ◌==◌, [], length, None, IfNone, IfOk, IfSome, IfErr};
 ghost use Rattle.std.specs.Option.{option_copied, option_copied_mut};
@@ -48,24 +48,24 @@ impl<R, A: Allocator> LinkedTable<R, A> {
         }
     }
 
-    /// How many records stand in the table.
+    /// How many records are in the table.
     pub fn len(&self) -> usize
         ensures count { result ≡ length self.now }
 
-        // At most one record stands in a place.
+        // At most one record is in a slot.
         ensures distinct { IsDistinct self.now }
     {
         self.nodes.map.len()
     }
 
-    /// Whether no record stands in the table.
+    /// Whether no record is in the table.
     pub fn is_empty(&self) -> bool
         ensures { result ≡ (length self.now == 0) }
     {
         self.len() == 0
     }
 
-    /// The record in a place.
+    /// The record in a slot.
     pub fn get(&self, q: u16, cid: u16) -> Option<&R>
         ensures value { option_copied result ≡ value_at self.now q cid }
 
@@ -78,7 +78,7 @@ impl<R, A: Allocator> LinkedTable<R, A> {
         }
     }
 
-    /// The record in a place, to be changed there.
+    /// The record in a slot, to be changed there.
     pub fn get_mut(&mut self, q: u16, cid: u16) -> Option<&mut R>
         ensures* writes_back { sem 𝓛 (lends_linked R.row A.row A.Allocator self.entry q cid result) }
         ensures value { option_copied_mut result ≡ value_at self.old q cid }
@@ -92,14 +92,14 @@ impl<R, A: Allocator> LinkedTable<R, A> {
         }
     }
 
-    /// The place of the first row, as its queue and its identifier.
+    /// The slot of the first row, as its queue and its identifier.
     pub fn first(&self) -> Option<(u16, u16)>
         ensures { result ≡ first_place self.now }
     {
         self.nodes.first
     }
 
-    /// The place of the row behind the one in a place. `None` where that row is the last, and where none stands there.
+    /// The slot of the row after the one in a slot. `None` where that row is the last, and where none is there.
     pub fn next(&self, q: u16, cid: u16) -> Option<(u16, u16)>
         ensures { result ≡ place_behind self.now q cid }
     {
@@ -118,7 +118,7 @@ impl<R, A: Allocator> LinkedTable<R, A> {
         *last = None;
     }
 
-    /// Takes the record out of a place. The others keep their order.
+    /// Takes the record out of a slot. The others keep their order.
     pub fn take(&mut self, q: u16, cid: u16) -> Option<R>
         ensures value { result ≡ value_at self.old q cid }
         ensures rest { self.new ≡ without self.old q cid }
@@ -135,7 +135,7 @@ impl<R, A: Allocator> LinkedTable<R, A> {
 }
 
 impl<R, A: Allocator + Clone> LinkedTable<R, A> {
-    /// Puts a record into an empty place, behind all others.
+    /// Puts a record into an empty slot, after all others.
     ///
     /// # Errors
     ///
@@ -154,7 +154,7 @@ impl<R, A: Allocator + Clone> LinkedTable<R, A> {
         match self.nodes.map.insert((q, cid), node) {
             Ok(old) => match old {
                 None => {}
-                // The place is empty; a record could not be dropped.
+                // The slot is empty; a record could not be dropped.
                 Some(_) => unreachable!(),
             },
             Err(refused) => return Err(refused.value.1.value),

@@ -11,7 +11,7 @@ use std::hash::{BuildHasherDefault, FoldHasher};
 /// A queue and an identifier.
 pub(crate) type Place = (u16, u16);
 
-/// A record, and the places before and after its own in the list. `None` is the list's end, on both sides.
+/// A record, and the slots before and after its own in the list. `None` is the list's end, on both sides.
 #[derive(Drop)]
 pub(crate) struct Node<R> {
     pub(crate) value: R,
@@ -19,7 +19,7 @@ pub(crate) struct Node<R> {
     pub(crate) after: Option<Place>,
 }
 
-/// The records by their places, and the first and the last of the list.
+/// The records by their slots, and the first and the last of the list.
 #[derive(Drop)]
 pub(crate) struct Nodes<R, A: Allocator> {
     pub(crate) map: HashMap<Place, Node<R>, BuildHasherDefault<FoldHasher>, A>,
@@ -28,7 +28,7 @@ pub(crate) struct Nodes<R, A: Allocator> {
 }
 
 impl<R, A: Allocator> Nodes<R, A> {
-    /// Makes `after` the place that follows a place or the start.
+    /// Makes `after` the slot that follows a slot or the start.
     pub(crate) fn link_after(&mut self, place: Option<Place>, after: Option<Place>)
         requires { IsEnd (thread_of self.old.map self.old.first self.old.last) place }
         ensures links { LinksAfter (thread_of self.old.map self.old.first self.old.last) (thread_of self.new.map self.new.first self.new.last) place after }
@@ -40,7 +40,7 @@ impl<R, A: Allocator> Nodes<R, A> {
         }
     }
 
-    /// Makes `before` the place that a place or the end follows.
+    /// Makes `before` the slot that a slot or the end follows.
     pub(crate) fn link_before(&mut self, place: Option<Place>, before: Option<Place>)
         requires { IsEnd (thread_of self.old.map self.old.first self.old.last) place }
         ensures links { LinksBefore (thread_of self.old.map self.old.first self.old.last) (thread_of self.new.map self.new.first self.new.last) place before }

@@ -43,7 +43,7 @@ impl<R, A: Allocator> Model for SlotTable<R, A> {
 }
 
 impl<R, A: Allocator + Clone> SlotTable<R, A> {
-    /// A table with no record: so many queues, from 0 on, of `entries - 1` places each, as a ring of so many entries holds.
+    /// A table with no record: this many queues, starting at 0, of `entries - 1` slots each, as a ring of this many entries holds.
     ///
     /// # Errors
     ///
@@ -79,25 +79,25 @@ impl<R, A: Allocator> SlotTable<R, A> {
     ghost use Rattle.slot_table.specs.Lends.{lends_get, lends_record};
     ghost use Rattle.slot_table.specs.Links.{place_of};
 
-    /// How many records stand in the table.
+    /// How many records are in the table.
     pub fn len(&self) -> usize
         ensures count { result ≡ length self.now.rows }
 
-        // At most one record stands in a place, and each in a place that the table has.
+        // At most one record is in a slot, and each in a slot that the table has.
         ensures distinct { IsDistinct self.now.rows }
         ensures inside { AreInside self.now.queues self.now.places self.now.rows }
     {
         self.len
     }
 
-    /// Whether no record stands in the table.
+    /// Whether no record is in the table.
     pub fn is_empty(&self) -> bool
         ensures { result ≡ (length self.now.rows == 0) }
     {
         self.len == 0
     }
 
-    /// The index of a place, if the table has it.
+    /// The index of a slot, if the table has it.
     fn index(&self, q: u16, cid: u16) -> Option<usize>
         ensures { MatchOption result (NoneAt self.now.rows q cid) (λ i. IsPlace self.now q cid × (i ≡ q * self.now.places + cid)) }
     {
@@ -110,11 +110,11 @@ impl<R, A: Allocator> SlotTable<R, A> {
         Some((u32::from(q) * self.places + u32::from(cid)) as usize)
     }
 
-    /// The record in a place.
+    /// The record in a slot.
     pub fn get(&self, q: u16, cid: u16) -> Option<&R>
         ensures value { option_copied result ≡ value_at self.now.rows q cid }
 
-        // It stands in a place that the table has, and is the only one there.
+        // It is in a slot that the table has, and is the only one there.
         ensures place { IfSome result (λ _. IsPlace self.now q cid) }
         ensures distinct { IfSome result (λ _. IsDistinct self.now.rows) }
     {
@@ -122,7 +122,7 @@ impl<R, A: Allocator> SlotTable<R, A> {
         self.records[place].as_ref()
     }
 
-    /// The record in a place, to be changed there.
+    /// The record in a slot, to be changed there.
     pub fn get_mut(&mut self, q: u16, cid: u16) -> Option<&mut R>
         ensures* writes_back { sem 𝓛 (lends_get R.row A.row A.Allocator self.entry q cid result) }
         ensures value { option_copied_mut result ≡ value_at self.old.rows q cid }
@@ -147,7 +147,7 @@ impl<R, A: Allocator> SlotTable<R, A> {
         content_mut(&mut self.records[place as usize])
     }
 
-    /// The place of the first row, as its queue and its identifier.
+    /// The slot of the first row, as its queue and its identifier.
     pub fn first(&self) -> Option<(u16, u16)>
         ensures { result ≡ first_place self.now.rows }
     {
@@ -155,7 +155,7 @@ impl<R, A: Allocator> SlotTable<R, A> {
         self.place_of(self.links[end as usize].after)
     }
 
-    /// The place of the row behind the one in a place. `None` where that row is the last, and where none stands there.
+    /// The slot of the row after the one in a slot. `None` where that row is the last, and where none is there.
     pub fn next(&self, q: u16, cid: u16) -> Option<(u16, u16)>
         ensures { result ≡ place_behind self.now.rows q cid }
     {
@@ -166,7 +166,7 @@ impl<R, A: Allocator> SlotTable<R, A> {
         self.place_of(self.links[place].after)
     }
 
-    /// The queue and the identifier of the place at an index, but for the end of the list.
+    /// The queue and the identifier of the slot at an index, but for the end of the list.
     fn place_of(&self, index: u32) -> Option<(u16, u16)>
         requires { index ≤ self.now.queues * self.now.places }
         ensures { result ≡ place_of self.now.places (self.now.queues * self.now.places) index }
@@ -178,7 +178,7 @@ impl<R, A: Allocator> SlotTable<R, A> {
         Some(((index / self.places) as u16, (index % self.places) as u16))
     }
 
-    /// Puts a record into an empty place, behind all others.
+    /// Puts a record into an empty slot, after all others.
     pub fn put(&mut self, q: u16, cid: u16, value: R)
         requires place { IsPlace self.old q cid }
         requires empty { value_at self.old.rows q cid ≡ None }
@@ -192,16 +192,16 @@ impl<R, A: Allocator> SlotTable<R, A> {
         self.len += 1;
         match mem::replace(&mut self.records[place as usize], Some(value)) {
             None => {}
-            // The place is empty; a record could not be dropped.
+            // The slot is empty; a record could not be dropped.
             Some(_) => unreachable!(),
         }
     }
 
-    /// Puts a record into a place that may be taken or not be there: then the record is handed back, and nothing changed.
+    /// Puts a record into a slot that may be taken or may not exist: then the record is handed back, and nothing changed.
     ///
     /// # Errors
     ///
-    /// The record, where the table has no such place, or a record stands there.
+    /// The record, where the table has no such slot, or a record is there.
     pub fn try_put(&mut self, q: u16, cid: u16, value: R) -> Result<(), R>
         ensures put { IfOk result (λ _. IsPlace self.old q cid × (value_at self.old.rows q cid ≡ None) × (self.new ≡ with_row self.old q cid value)) }
         ensures handed_back { IfErr result (λ back. (back ≡ value) × (self.new ≡ self.old)) }
@@ -217,7 +217,7 @@ impl<R, A: Allocator> SlotTable<R, A> {
         Ok(())
     }
 
-    /// Takes the record out of a place. The others keep their order.
+    /// Takes the record out of a slot. The others keep their order.
     pub fn take(&mut self, q: u16, cid: u16) -> Option<R>
         ensures value { result ≡ value_at self.old.rows q cid }
         ensures rest { self.new ≡ record self.old { rows = without self.old.rows q cid } }
@@ -235,7 +235,7 @@ impl<R, A: Allocator> SlotTable<R, A> {
     }
 }
 
-/// The record in an occupied place, to be changed there.
+/// The record in an occupied slot, to be changed there.
 fn content_mut<R>(place: &mut Option<R>) -> &mut R
     requires { IsSome place.old }
     ensures* writes_back { sem 𝓛 (lends_content R.row place.entry result) }
@@ -243,7 +243,7 @@ fn content_mut<R>(place: &mut Option<R>) -> &mut R
 {
     match place {
         Some(record) => record,
-        // The place is occupied: the caller owes it. `Option` has no `as_mut` here.
+        // The slot is occupied: the caller guarantees it. `Option` has no `as_mut` here.
         None => unreachable!(),
     }
 }

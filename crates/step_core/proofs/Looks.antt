@@ -32,17 +32,17 @@ use Rattle.controller_walk.specs.declared.walk.WalkState.{WalkState}
 
 -- the host alone finds a completion where the world has one
 pub waits_alike : (s : Sides) (q : ℕ) → IsWorld s → completion_waits (alone s.host s.pages) q ≡ has_completion (state_of s) q
-waits_alike s q l = go (slice_get s.host.host.queues q) refl
+waits_alike s q l = by_queue (slice_get s.host.host.queues q) refl
   where
-    go : (o : Option HostQueue) → slice_get s.host.host.queues q ≡ o → completion_waits (alone s.host s.pages) q ≡ has_completion (state_of s) q
-    go None at = rw at refl
-    go (Some h) at = inner (is_reaped h.state) refl
+    by_queue : (o : Option HostQueue) → slice_get s.host.host.queues q ≡ o → completion_waits (alone s.host s.pages) q ≡ has_completion (state_of s) q
+    by_queue None at = rw at refl
+    by_queue (Some h) at = inner (is_reaped h.state) refl
       where
         inner : (b : Bool) → is_reaped h.state ≡ b → completion_waits (alone s.host s.pages) q ≡ has_completion (state_of s) q
         inner false live = rw (at, live) refl
         inner true live = ap (λ (b : Bool). is_none (refusal_of (state_of s) (events.Reap q)) && b) (completions_seen s q h l at live)
 
--- a test that fails at a queue more
+-- a test that fails at one more queue
 pub fails-more : {S : Type 0} (test : S → ℕ → Bool) (first now new : S) (n : ℕ) (b : Bool) → (now ≡ first) × ((k : ℕ) → k < n → test first k ≡ false) → new ≡ now → b ≡ test now n → b ≡ false
     → (new ≡ first) × ((k : ℕ) → k < n + 1 → test first k ≡ false)
 fails-more test first now new n b kept same is fails =
@@ -50,11 +50,11 @@ fails-more test first now new n b kept same is fails =
 
 -- no queue past the last one has a completion
 pub no-completions : (s : State) (n : ℕ) → length s.host.queues ≤ n → ((k : ℕ) → k < n → has_completion s k ≡ false) → (q : ℕ) → has_completion s q ≡ false
-no-completions s n past below q = go (slice_get_cases s.host.queues q).1
+no-completions s n past below q = by_presence (slice_get_cases s.host.queues q).1
   where
-    go : ((x : HostQueue) × (q < length s.host.queues) × (slice_get s.host.queues q ≡ Some x) × (get_or s.host.queues q x ≡ x)) ⊎ ((length s.host.queues ≤ q) × (slice_get s.host.queues q ≡ None)) → has_completion s q ≡ false
-    go (inl (x, within, at, same)) = below q (omega arith)
-    go (inr (beyond, none)) = rw none refl
+    by_presence : ((x : HostQueue) × (q < length s.host.queues) × (slice_get s.host.queues q ≡ Some x) × (get_or s.host.queues q x ≡ x)) ⊎ ((length s.host.queues ≤ q) × (slice_get s.host.queues q ≡ None)) → has_completion s q ≡ false
+    by_presence (inl (x, within, at, same)) = below q (omega arith)
+    by_presence (inr (beyond, none)) = rw none refl
 
 -- The controller's steps
 
@@ -84,11 +84,11 @@ as_many n k (h ∷ hs) (c ∷ cs) share = ap suc (as_many n (suc k) hs cs share.
 
 -- no entry is fetched from a queue past the last one
 past_last : (c : Contents) (m : Memory) (q : ℕ) → length c.queues ≤ q → is_none (fetch_refusal c m q) ≡ false
-past_last c m q past = go (slice_get_cases c.queues q).1
+past_last c m q past = by_presence (slice_get_cases c.queues q).1
   where
-    go : ((x : ControllerQueue) × (q < length c.queues) × (slice_get c.queues q ≡ Some x) × (get_or c.queues q x ≡ x)) ⊎ ((length c.queues ≤ q) × (slice_get c.queues q ≡ None)) → is_none (fetch_refusal c m q) ≡ false
-    go (inl (x, within, at, same)) = absurd (omega arith)
-    go (inr (beyond, none)) = rw none refl
+    by_presence : ((x : ControllerQueue) × (q < length c.queues) × (slice_get c.queues q ≡ Some x) × (get_or c.queues q x ≡ x)) ⊎ ((length c.queues ≤ q) × (slice_get c.queues q ≡ None)) → is_none (fetch_refusal c m q) ≡ false
+    by_presence (inl (x, within, at, same)) = absurd (omega arith)
+    by_presence (inr (beyond, none)) = rw none refl
 
 at_rest : (s : Sides) → IsWorld s → length s.host.host.queues < 65536 → controller.IsAtRest s.controller (byte_at s.pages) → s.trusted ≡ true → IsAtRest (state_of s)
 at_rest s l few rest trust =
@@ -102,11 +102,11 @@ at_rest s l few rest trust =
     many = as_many s.host.entries 0 s.host.host.queues s.controller.queues l.sides.queues
 
     fetch : (q : ℕ) → is_none (fetch_refusal s.controller (byte_at s.pages) q) ≡ false
-    fetch q = go (slice_get_cases s.controller.queues q).1
+    fetch q = by_presence (slice_get_cases s.controller.queues q).1
       where
-        go : ((x : ControllerQueue) × (q < length s.controller.queues) × (slice_get s.controller.queues q ≡ Some x) × (get_or s.controller.queues q x ≡ x)) ⊎ ((length s.controller.queues ≤ q) × (slice_get s.controller.queues q ≡ None)) → is_none (fetch_refusal s.controller (byte_at s.pages) q) ≡ false
-        go (inl (x, within, at, same)) = rest.fetches q (omega (arith, many, few, within))
-        go (inr (beyond, none)) = past_last s.controller (byte_at s.pages) q beyond
+        by_presence : ((x : ControllerQueue) × (q < length s.controller.queues) × (slice_get s.controller.queues q ≡ Some x) × (get_or s.controller.queues q x ≡ x)) ⊎ ((length s.controller.queues ≤ q) × (slice_get s.controller.queues q ≡ None)) → is_none (fetch_refusal s.controller (byte_at s.pages) q) ≡ false
+        by_presence (inl (x, within, at, same)) = rest.fetches q (omega (arith, many, few, within))
+        by_presence (inr (beyond, none)) = past_last s.controller (byte_at s.pages) q beyond
 
 pub rests : (s : Sides) (old : State) (o : Option ControllerStep) → state_of s ≡ old → IsWorld s → length s.host.host.queues < 65536 → IfNone o (controller.IsAtRest s.controller (byte_at s.pages))
     → IfNone o (IsTrue old.trusted → IsAtRest old)
@@ -158,25 +158,25 @@ module _ (s : Sides) (q : ℕ) (h : HostQueue) (c : ControllerQueue) (rings : Ri
       ∙ ap (λ (b : Bool). if b then 0 else distance c.controller.entries c.controller.ring.head c.controller.ring.bell) has
 
   pub tells_rung : TellsRung (state_of s) q rings
-  tells_rung = subst (λ (o : Option FetchPositions). IfSome o Tells) (sym l.submission) (go (is_absent c.state) refl)
+  tells_rung = subst (λ (o : Option FetchPositions). IfSome o Tells) (sym l.submission) (by_absence (is_absent c.state) refl)
     where
       Tells : FetchPositions → Type 0
       Tells at = distance s.host.entries at.head at.tail_doorbell ≡ option_map_or (λ (queue : ServedQueue). queue.rung) (slice_get (state_of s).controller.queues q) 0
 
-      go : (b : Bool) → is_absent c.state ≡ b → IfSome (if b then None else Some (record { head = c.controller.ring.head; tail_doorbell = c.controller.ring.bell })) Tells
-      go true is = tt
-      go false is =
+      by_absence : (b : Bool) → is_absent c.state ≡ b → IfSome (if b then None else Some (record { head = c.controller.ring.head; tail_doorbell = c.controller.ring.bell })) Tells
+      by_absence true is = tt
+      by_absence false is =
           ap (λ (n : ℕ). distance n c.controller.ring.head c.controller.ring.bell) (sym (placed s l.world q h c l.host l.controller).share.entries) ∙ sym (rung false is is)
 
   pub tells_fetching : s.trusted ≡ true → TellsFetching (state_of s) q rings
-  tells_fetching t = subst (λ (o : Option FetchPositions). IfSome o (λ at. at.head ≡ fetch_slot (state_of s) q)) (sym l.submission) (go (is_absent c.state) refl)
+  tells_fetching t = subst (λ (o : Option FetchPositions). IfSome o (λ at. at.head ≡ fetch_slot (state_of s) q)) (sym l.submission) (by_absence (is_absent c.state) refl)
     where
-      go : (b : Bool) → is_absent c.state ≡ b → IfSome (if b then None else Some (record { head = c.controller.ring.head; tail_doorbell = c.controller.ring.bell })) (λ (at : FetchPositions). at.head ≡ fetch_slot (state_of s) q)
-      go true is = tt
-      go false is = sym (fetch_slot_is (state_of s) s q h c (shows s q h c l.host l.controller) (known s l.world t q h c l.host l.controller) is)
+      by_absence : (b : Bool) → is_absent c.state ≡ b → IfSome (if b then None else Some (record { head = c.controller.ring.head; tail_doorbell = c.controller.ring.bell })) (λ (at : FetchPositions). at.head ≡ fetch_slot (state_of s) q)
+      by_absence true is = tt
+      by_absence false is = sym (fetch_slot_is (state_of s) s q h c (shows s q h c l.host l.controller) (known s l.world t q h c l.host l.controller) is)
 
   pub tells_posting : s.trusted ≡ true → TellsPosting (state_of s) q rings
-  tells_posting t = subst (λ (o : Option PostPositions). IfSome o (λ at. IsPosting (state_of s) q rings at)) (sym l.completion) (go c.cq_there refl)
+  tells_posting t = subst (λ (o : Option PostPositions). IfSome o (λ at. IsPosting (state_of s) q rings at)) (sym l.completion) (by_completion_queue c.cq_there refl)
     where
       k : IsKnown s q h c
       k = known s l.world t q h c l.host l.controller
@@ -184,10 +184,10 @@ module _ (s : Sides) (q : ℕ) (h : HostQueue) (c : ControllerQueue) (rings : Ri
       head : rings.host.completion_head ≡ h.ring.head
       head = ap (λ (at : HostPositions). at.completion_head) l.positions
 
-      go : (b : Bool) → c.cq_there ≡ b
+      by_completion_queue : (b : Bool) → c.cq_there ≡ b
           → IfSome (if b then Some (record { tail = c.controller.ring.tail; phase = c.controller.ring.phase; head_doorbell = c.controller.ring.known_head }) else None) (λ (at : PostPositions). IsPosting (state_of s) q rings at)
-      go false is = tt
-      go true is =
+      by_completion_queue false is = tt
+      by_completion_queue true is =
           record {
             tail = sym (post_slot_is (state_of s) s q h c (shows s q h c l.host l.controller) k is);
             heard = (k.rings (there_ring h c is)).heard ∙ sym head;
@@ -233,26 +233,26 @@ tells_some s q h c rings l state outstanding =
 -- one that is told
 pub host_told : (queues : List HostQueue) (q : ℕ) (state : HostState) (at : HostPositions) → Some state ≡ option_map (λ (queue : HostQueue). queue.state) (slice_get queues q)
     → Some at ≡ option_map (λ (queue : HostQueue). host_positions queue.ring) (slice_get queues q) → (h : HostQueue) × (slice_get queues q ≡ Some h) × (state ≡ h.state) × (at ≡ host_positions h.ring)
-host_told queues q state at known is = go (slice_get queues q) refl known is
+host_told queues q state at known is = by_queue (slice_get queues q) refl known is
   where
-    go : (o : Option HostQueue) → slice_get queues q ≡ o → Some state ≡ option_map (λ (queue : HostQueue). queue.state) o → Some at ≡ option_map (λ (queue : HostQueue). host_positions queue.ring) o
+    by_queue : (o : Option HostQueue) → slice_get queues q ≡ o → Some state ≡ option_map (λ (queue : HostQueue). queue.state) o → Some at ≡ option_map (λ (queue : HostQueue). host_positions queue.ring) o
         → (h : HostQueue) × (slice_get queues q ≡ Some h) × (state ≡ h.state) × (at ≡ host_positions h.ring)
-    go None e known told = absurd (none-some _ (sym told))
-    go (Some h) e known told = (h, e, cc, cc)
+    by_queue None e known told = absurd (none-some _ (sym told))
+    by_queue (Some h) e known told = (h, e, cc, cc)
 
 -- a queue of the host is one of the controller too
 pub not_beside : (s : Sides) (q : ℕ) → IsWorld s → slice_get s.controller.queues q ≡ None → slice_get s.host.host.queues q ≡ None
-not_beside s q world none = go (slice_get s.host.host.queues q) refl
+not_beside s q world none = by_queue (slice_get s.host.host.queues q) refl
   where
-    go : (o : Option HostQueue) → slice_get s.host.host.queues q ≡ o → slice_get s.host.host.queues q ≡ None
-    go None e = e
-    go (Some h) e = let c = controller_at s world q h e in absurd (none-some _ (sym none ∙ c.1))
+    by_queue : (o : Option HostQueue) → slice_get s.host.host.queues q ≡ o → slice_get s.host.host.queues q ≡ None
+    by_queue None e = e
+    by_queue (Some h) e = let c = controller_at s world q h e in absurd (none-some _ (sym none ∙ c.1))
 
 at_place : (queues xs : List ControllerQueue) (q i : ℕ) (o : Option ControllerQueue) → xs ≡ queues → i ≡ q → slice_get xs i ≡ o → slice_get queues q ≡ o
 at_place queues xs q i o same place is =
     subst (λ (k : ℕ). slice_get queues k ≡ o) place (subst (λ (l : List ControllerQueue). slice_get l i ≡ o) same is)
 
--- what is told where the controller has a queue in this place
+-- what is told where the controller has a queue at this index
 pub told_there : (s : Sides) (w : State) (q i : ℕ) (xs : List ControllerQueue) (c : ControllerQueue) (rings : Rings) → IsWorld s → state_of s ≡ w → xs ≡ s.controller.queues → i ≡ q → i < length xs → c ≡ get_or xs i c
     → Some rings.state ≡ option_map (λ (queue : HostQueue). queue.state) (slice_get s.host.host.queues q) → Some rings.host ≡ option_map (λ (queue : HostQueue). host_positions queue.ring) (slice_get s.host.host.queues q)
     → rings.submission ≡ fetching_of c → rings.completion ≡ posting_of c → rings.outstanding ≡ length (outstanding_on s.host.host q) → TellsAll w q (Some rings)
@@ -299,7 +299,7 @@ counted_so : (u n more : ℕ) → counted (counted u n) more ≡ touches_more (c
 counted_so u n zero = counted_none u n
 counted_so u n (suc more) = refl
 
--- the count behind a step that began with an empty list, by what it tells
+-- the count after a step that began with an empty list, by what it reports
 pub told_all : (u n touches u' : ℕ) (reached told : List ℕ) (reply : Reply) → u' ≡ counted u n → counted u n ≡ touches → told ≡ reached → touched_by reply ≡ told
     → counted u' (length reached) ≡ touches_more touches (length (touched_by reply))
 told_all u n touches u' reached told reply cleared was is tells = rw (tells, is, cleared, ← was) (counted_so u n (length reached))
@@ -307,7 +307,7 @@ told_all u n touches u' reached told reply cleared was is tells = rw (tells, is,
 counted_sum : (u n more : ℕ) → counted u (n + more) ≡ counted (counted u n) more
 counted_sum u n more = omega arith
 
--- a call touched so many pages more
+-- a call touched this many more pages
 pub touches_at : (touches touches' u u' pages : ℕ) (reached reached' : List ℕ) → counted u (length reached) ≡ touches → touches' ≡ counted u' (length reached')
     → TouchesMore u reached pages u' reached' → touches' ≡ touches_more touches pages
 touches_at touches touches' u u' pages reached reached' was is more =
@@ -325,7 +325,7 @@ one_page a b same = rw (eq-eqb a b same) refl
 slot_reached : (cq slot : ℕ) → length (pages_reached (completion_place cq slot) 16) ≡ 1
 slot_reached cq slot = one_page (page_of (completion_place cq slot)) (page_of (completion_place cq slot + 16 - 1)) (omega arith)
 
--- the count behind a completion that was written into its slot
+-- the count after a completion that was written into its slot
 pub forged_one : (touches u u1 u2 : ℕ) (reached reached1 reached2 : List ℕ) (cq slot : ℕ) → counted u (length reached) ≡ touches → reached1 ≡ [] → u1 ≡ counted u (length reached)
     → reached2 ≡ reached1 ++ pages_reached (completion_place cq slot) 16 → u2 ≡ u1 → counted u2 (length reached2) ≡ counted touches 1
 forged_one touches u u1 u2 reached reached1 reached2 cq slot was none cleared is same =
@@ -392,11 +392,11 @@ head_none c m q none = rw none refl
 
 heads_few : (c : Contents) (m : Memory) (n : ℕ) → heads_touch c m n ≤ 2 * length c.queues
 heads_few c m zero = omega arith
-heads_few c m (suc n) = go (heads_few c m n) (slice_get_cases c.queues n).1
+heads_few c m (suc n) = by_presence (heads_few c m n) (slice_get_cases c.queues n).1
   where
-    go : heads_touch c m n ≤ 2 * length c.queues → ((x : ControllerQueue) × (n < length c.queues) × (slice_get c.queues n ≡ Some x) × (get_or c.queues n x ≡ x)) ⊎ ((length c.queues ≤ n) × (slice_get c.queues n ≡ None)) → heads_touch c m (suc n) ≤ 2 * length c.queues
-    go before (inl (x, within, at, same)) = omega (arith, heads_twice c m n, head_few c m n, within)
-    go before (inr (beyond, none)) = omega (arith, before, head_none c m n none)
+    by_presence : heads_touch c m n ≤ 2 * length c.queues → ((x : ControllerQueue) × (n < length c.queues) × (slice_get c.queues n ≡ Some x) × (get_or c.queues n x ≡ x)) ⊎ ((length c.queues ≤ n) × (slice_get c.queues n ≡ None)) → heads_touch c m (suc n) ≤ 2 * length c.queues
+    by_presence before (inl (x, within, at, same)) = omega (arith, heads_twice c m n, head_few c m n, within)
+    by_presence before (inr (beyond, none)) = omega (arith, before, head_none c m n none)
 
 pub looked_few : (c : Contents) (m : Memory) (step : Option ControllerStep) → looked c m step ≤ 2 * length c.queues + 1
 looked_few c m None = omega (arith, heads_few c m (queue_numbers c))
@@ -408,7 +408,7 @@ looked_few c m (Some (Complete q cid)) = omega (arith, heads_few c m (queue_numb
 pub cleared_more : (u u' pages : ℕ) (reached reached' : List ℕ) → u' ≡ counted u (length reached + pages) → reached' ≡ [] → TouchesMore u reached pages u' reached'
 cleared_more u u' pages reached reached' is none = rw (none, is) (counted_none u (length reached + pages))
 
--- a read behind an emptied list touches two pages at most
+-- a read after an emptied list touches at most two pages
 pub reads_few : {E : Type 0} (result : Result (Unit {0}) E) (into into' : List ℕ) (touches u u1 u2 : ℕ) (reached reached1 reached2 more : List ℕ) → counted u (length reached) ≡ touches → reached1 ≡ [] → u1 ≡ counted u (length reached) → u2 ≡ u1
     → length more ≤ 2 → OnOk result (reached2 ≡ reached1 ++ more) → OnErr result ((into' ≡ into) × (reached2 ≡ reached1)) → LooksAtMost 2 touches (counted u2 (length reached2))
 reads_few (Ok done) into into' touches u u1 u2 reached reached1 reached2 more was none cleared same few read stays =

@@ -50,11 +50,11 @@ found_event P event None e each at = absurd cc
 found_event P event (Some x) e each at = subst P (inside at) (each x refl)
 
 pub collect_at : (t : Table) (q cid : ℕ) (e : Event) → event_at t (step.Collect q cid) ≡ Some e → events.Collect q cid ≡ e
-collect_at t q cid e at = go (list_any (is_ticket q cid) t.tickets) at
+collect_at t q cid e at = by_ticket (list_any (is_ticket q cid) t.tickets) at
   where
-    go : (b : Bool) → (if b then Some (events.Collect q cid) else None) ≡ Some e → events.Collect q cid ≡ e
-    go true at = inside at
-    go false at = absurd cc
+    by_ticket : (b : Bool) → (if b then Some (events.Collect q cid) else None) ≡ Some e → events.Collect q cid ≡ e
+    by_ticket true at = inside at
+    by_ticket false at = absurd cc
 
 -- a step asks for its event
 pub asked_at : (t : Table) (what : Step) (e : Event) → event_at t what ≡ Some e → what ≡ asked e
@@ -170,7 +170,7 @@ few_links : (s : ℕ) (pages : List ℕ) (k : ℕ) → length (link_to s pages k
 few_links s [] k = omega arith
 few_links s (page ∷ pages) k = omega arith
 
--- a segment holds as many descriptors as one may, at most
+-- a segment holds at most as many descriptors as one may
 whole_segment : (s : ℕ) (parts : List Part) → s ≤ 256 → length parts ≤ s → length (map descriptor_of_part parts) ≤ 256
 whole_segment s parts high few = omega (arith, high, few, length-map parts descriptor_of_part)
 
@@ -179,17 +179,17 @@ linked_segment s k pages parts low high = grind (arith, common_steps, few_links 
 
 segments_fit : (s : ℕ) (pages : List ℕ) (parts : List Part) → 2 ≤ s → s ≤ 256 → AllByRecursion FitsInPage (segments_on s pages parts)
 segments_fit s [] parts low high = tt
-segments_fit s (page ∷ pages) parts low high = go (nat_le (length parts) s) refl (segments_fit s pages (drop (s - 1) parts) low high)
+segments_fit s (page ∷ pages) parts low high = by_length (nat_le (length parts) s) refl (segments_fit s pages (drop (s - 1) parts) low high)
   where
     at_most : (k n : ℕ) → nat_le k n ≡ true → k ≤ n
     at_most k n e = grind (arith, nat_tests)
 
-    go : (b : Bool) → nat_le (length parts) s ≡ b → AllByRecursion FitsInPage (segments_on s pages (drop (s - 1) parts))
+    by_length : (b : Bool) → nat_le (length parts) s ≡ b → AllByRecursion FitsInPage (segments_on s pages (drop (s - 1) parts))
         → AllByRecursion FitsInPage
         (if b then map descriptor_of_part parts ∷ []
         else (map descriptor_of_part (take (s - 1) parts) ++ link_to s pages (length parts - (s - 1))) ∷ segments_on s pages (drop (s - 1) parts))
-    go true e rest = (whole_segment s parts high (at_most (length parts) s e), tt)
-    go false e rest = (linked_segment s (length parts - (s - 1)) pages parts low high, rest)
+    by_length true e rest = (whole_segment s parts high (at_most (length parts) s e), tt)
+    by_length false e rest = (linked_segment s (length parts - (s - 1)) pages parts low high, rest)
 
 laid_pages : (segments : List (List Descriptor)) (pages : PagesOut) → AllByRecursion FitsInPage segments → AllByRecursion IsPageOut pages → AllByRecursion IsPageOut (laid segments pages)
 laid_pages [] pages fit whole = whole
@@ -257,11 +257,11 @@ own_left t (step.Gather q cid) answer new is = gathers_left t (finished_at q cid
 own_left t what answer new is = Same is.1
 
 pub own_world : (t : Table) (what : Step) (answer : Reply) (new : Table) → IsOwn t what answer new → new.world ≡ t.world
-own_world t what answer new is = go (own_left t what answer new is)
+own_world t what answer new is = by_change (own_left t what answer new is)
   where
-    go : OwnLeft t new → new.world ≡ t.world
-    go (Same same) = ap (λ (x : Table). x.world) same
-    go (Changed test f proper same) = ap (λ (x : Table). x.world) same
+    by_change : OwnLeft t new → new.world ≡ t.world
+    by_change (Same same) = ap (λ (x : Table). x.world) same
+    by_change (Changed test f proper same) = ap (λ (x : Table). x.world) same
 
 -- Benches open in order, and each step keeps them so.
 
@@ -284,7 +284,7 @@ abbrev IsProperFinished : FinishedContents → Type 0
 IsProperFinished f = IsProper (events.Release f)
 
 module _ (keep : steps_keep_order) (fresh : reserved_drafts_are_proper) (held : collected_commands_are_proper) where
-  -- behind a reply of the machine the values stay proper
+  -- after a reply of the machine the values stay proper
   values : (t : Table) (what : Step) (e : Event) (r : events.Reply) (new : State) → IsTableInOrder t → event_at t what ≡ Some e → machine.Step t.world e r new
       → AllByRecursion IsProperDraft (kept t what r).drafts × AllByRecursion IsProperFinished (kept t what r).finished
   values t (step.Reserve q request) e (events.Reserved d) new h at is =
@@ -299,13 +299,13 @@ module _ (keep : steps_keep_order) (fresh : reserved_drafts_are_proper) (held : 
   values t what e r new h at is = (h.drafts, h.finished)
 
   keeps_order : benches_keep_order
-  keeps_order t what answer new h does = go (event_at t what) refl does
+  keeps_order t what answer new h does = by_event (event_at t what) refl does
     where
-      go : (o : Option Event) → event_at t what ≡ o → DoesBy o t what answer new → IsTableInOrder new
-      go (Some e) at m =
+      by_event : (o : Option Event) → event_at t what ≡ o → DoesBy o t what answer new → IsTableInOrder new
+      by_event (Some e) at m =
           let proper = values t what e m.reply new.world h at m.step in
           subst IsTableInOrder (sym m.keeps) (record { world = keep t.world e m.reply new.world h.world m.step; drafts = proper.0; finished = proper.1 })
-      go None at own = left (own_left t what answer new own)
+      by_event None at own = left (own_left t what answer new own)
         where
           left : OwnLeft t new → IsTableInOrder new
           left (Same same) = subst IsTableInOrder (sym same) h
@@ -319,7 +319,7 @@ bench_keeps = keeps_order order_kept reserved_is_proper collected_is_proper
 
 -- What a bench does is a run of the machine.
 
--- a step more in front
+-- one more step before the others
 pub steps_from : (o : Option Event) (t : Table) (what : Step) (answer : Reply) (mid new : Table) (does : DoesBy o t what answer mid) (made : List Made) → Steps mid.world made new.world
     → Steps t.world (made_from o t what answer mid does made) new.world
 steps_from (Some e) t what answer mid new makes made steps = (refl, mid.world, makes.step, steps)
@@ -347,7 +347,7 @@ unfolding own_by
 own_asked s (events.Fetch q) = refl
 own_asked s e = refl
 
--- replies of which one answer tells touched the same pages
+-- replies that one answer reports touched the same pages
 touched_in : Reply → List ℕ
 touched_in (reply.Fetched cid touched) = touched
 touched_in (reply.Walked state touched) = touched
@@ -360,7 +360,7 @@ unfolding touched_in
 touched_told events.Accepted = refl
 touched_told r = refl
 
--- no step of the bench alone asks for an event and tells of a reply
+-- no step of the bench alone asks for an event and reports a reply
 own_answer : (t : Table) (e : Event) (answer : Reply) (new : Table) → IsOwn t (asked e) answer new → answer ≡ reply.NoValue
 own_answer t events.Reset answer new own = own.0
 own_answer t e answer new own = own.0
@@ -373,16 +373,16 @@ abbrev stays_in : State → List ℕ → List ℕ → Bool
 stays_in s own touched = list_all (is_among (allowed s)) touched && list_all (is_among own) touched
 
 pub touches_what_it_may : benches_touch_what_they_may
-touches_what_it_may t what answer new e r h trusted does asks tells = go (event_at t what) refl does
+touches_what_it_may t what answer new e r h trusted does asks tells = by_event (event_at t what) refl does
   where
-    go : (o : Option Event) → event_at t what ≡ o → DoesBy o t what answer new → IsTrue (stays_in t.world (own_pages t.world e) (touched_by r))
-    go (Some x) at m =
+    by_event : (o : Option Event) → event_at t what ≡ o → DoesBy o t what answer new → IsTrue (stays_in t.world (own_pages t.world e) (touched_by r))
+    by_event (Some x) at m =
         subst IsTrue
         (ap₂ (stays_in t.world)
         (own_asked t.world x ∙ ap (own_by t.world) (sym (asked_at t what x at) ∙ asks) ∙ sym (own_asked t.world e))
         (touched_told m.reply ∙ ap touched_in (sym m.tells ∙ tells) ∙ sym (touched_told r)))
         (agreed_stays t.world new.world x m.reply (h.world.agree trusted) trusted m.step)
-    go None at own = absurd (never_told r (sym tells ∙ own_answer t e answer new (subst (λ (w : Step). IsOwn t w answer new) asks own)))
+    by_event None at own = absurd (never_told r (sym tells ∙ own_answer t e answer new (subst (λ (w : Step). IsOwn t w answer new) asks own)))
 
 -- Forgeries
 
@@ -400,12 +400,12 @@ same_forgeries : (t : Table) (steps : List Step) (answers : List Reply) (new : T
 same_forgeries t [] [] new does = refl
 same_forgeries t [] (answer ∷ answers) new does = absurd does
 same_forgeries t (what ∷ steps) [] new does = absurd does
-same_forgeries t (what ∷ steps) (answer ∷ answers) new (mid, does, rest) = go (event_at t what) refl does (same_forgeries mid steps answers new rest)
+same_forgeries t (what ∷ steps) (answer ∷ answers) new (mid, does, rest) = by_event (event_at t what) refl does (same_forgeries mid steps answers new rest)
   where
-    go : (o : Option Event) → event_at t what ≡ o → (does : DoesBy o t what answer mid) → list_any trusted.is_forgery (made_by mid steps answers new rest) ≡ has_forgery steps answers
+    by_event : (o : Option Event) → event_at t what ≡ o → (does : DoesBy o t what answer mid) → list_any trusted.is_forgery (made_by mid steps answers new rest) ≡ has_forgery steps answers
         → list_any trusted.is_forgery (made_from o t what answer mid does (made_by mid steps answers new rest)) ≡ has_forgery (what ∷ steps) (answer ∷ answers)
-    go (Some e) at m later = ap₂ (λ (x y : Bool). x || y) (sym (same_forgery e m.reply) ∙ ap₂ forges_by (sym (asked_at t what e at)) (sym m.tells)) later
-    go None at own later = later ∙ ap (λ (b : Bool). b || has_forgery steps answers) (sym (none_forged t what answer at))
+    by_event (Some e) at m later = ap₂ (λ (x y : Bool). x || y) (sym (same_forgery e m.reply) ∙ ap₂ forges_by (sym (asked_at t what e at)) (sym m.tells)) later
+    by_event None at own later = later ∙ ap (λ (b : Bool). b || has_forgery steps answers) (sym (none_forged t what answer at))
 
 -- Runs
 

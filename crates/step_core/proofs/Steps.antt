@@ -1,4 +1,4 @@
--- Each call of a world is a step of the machine, behind which both sides are tied.
+-- Each call of a world is a step of the machine, after which both sides are tied.
 use Rattle.controller_core.specs.declared.refusal.Refusal as refusing
 use Rattle.host_core.specs.Ringing as ringing
 use Rattle.machine_model.specs.Events as events
@@ -25,7 +25,7 @@ use Rattle.step_core.specs.{Opening.opening_of, Replies.ring_reply, Touching.Sta
 use Rattle.queue_pair.specs.Memory.{completion_place, completion_slot, half_pages}
 use Rattle.machine_model.specs.declared.words.Peer.TheVariants.{Modelled}
 
--- Each call of a world is a step of the machine, behind which both sides are tied.
+-- Each call of a world is a step of the machine, after which both sides are tied.
 
 pub record Goes (s : Sides) (e : Event) (reply : Reply) (new : Sides) : Type 0 where
   pub step : Step (state_of s) e reply (state_of new)
@@ -58,7 +58,7 @@ pub host_goes : (s : Sides) (e : Event) (reply : Reply) (host : HostView) (pages
 host_goes s e reply host pages c l h f step over is =
     subst (λ (c : Contents). Goes s e reply (sides_of host c pages s.trusted)) (sym is) (goes s e reply (behind s e reply host pages) l (hosts_stepped s e reply host pages l h f step over))
 
--- the calls of which the controller hears
+-- the calls that ring a doorbell
 abbrev pub rings : Event → Bool
 rings (events.Ring q) = true
 rings (events.Reap q) = true
@@ -74,7 +74,7 @@ pub silent_goes : (s : Sides) (e : Event) (reply : Reply) (host : HostView) (pag
     → HostStep s.host s.pages e reply host pages → IsOver host pages → Goes s e reply (sides_of host s.controller pages s.trusted)
 silent_goes s e reply host pages l h f quiet step over = host_goes s e reply host pages s.controller l h f step over (unheard e reply host s.controller quiet)
 
--- the tail that is rung, and the head that is rung where a completion was taken
+-- the tail doorbell is rung, and the head doorbell where a completion was taken
 
 pub ring_goes : (s : Sides) (q tail : ℕ) (c : Contents) → IsWorld s → ((pages : Pages) → HostStep s.host pages (events.Ring q) events.Accepted s.host pages) → tail_of s.host q ≡ Some tail
     → c ≡ tail_rung q tail s.controller → Goes s (events.Ring q) events.Accepted (sides_of s.host c s.pages s.trusted)
@@ -112,7 +112,7 @@ fetch_goes host controller c old cleared new trusted q result l is ok whole coun
     (fetches s q result c new.pages new.touched l ok (leaves old cleared new is whole count)
     (subst (λ (x : store.Contents). Fetches controller (length x.pages) (byte_at x.pages) x.touched q result c (byte_at new.pages) new.touched) is f)))
 
--- what a call leaves that was refused
+-- what a refused call leaves
 abbrev pub Stays : Contents → Memory → List ℕ → Contents → Memory → List ℕ → Type 0
 Stays c m reached c' m' reached' = (c' ≡ c) × (m' ≡ m) × (reached' ≡ reached)
 
@@ -160,15 +160,15 @@ complete_goes host controller c old cleared new trusted q cid result l is ok who
 
 -- Where a forged completion goes.
 
--- a place whose byte is there is in the pool
+-- an address whose byte is there is in the pool
 in_pool : (pages : Pages) (place : ℕ) → IsPool pages → byte_at pages place ≢ None → place < 268435456
-in_pool pages place pool there = go (slice_get_cases pages (page_of place)).1
+in_pool pages place pool there = by_presence (slice_get_cases pages (page_of place)).1
   where
-    go : ((x : Option (List ℕ)) × (page_of place < length pages) × (slice_get pages (page_of place) ≡ Some x) × (get_or pages (page_of place) x ≡ x)) ⊎ ((length pages ≤ page_of place) × (slice_get pages (page_of place) ≡ None)) → place < 268435456
-    go (inl (x, within, at, same)) = let few = pool.few in omega (arith, within, few)
-    go (inr (beyond, none)) = absurd (there (rw none refl))
+    by_presence : ((x : Option (List ℕ)) × (page_of place < length pages) × (slice_get pages (page_of place) ≡ Some x) × (get_or pages (page_of place) x ≡ x)) ⊎ ((length pages ≤ page_of place) × (slice_get pages (page_of place) ≡ None)) → place < 268435456
+    by_presence (inl (x, within, at, same)) = let few = pool.few in omega (arith, within, few)
+    by_presence (inr (beyond, none)) = absurd (there (rw none refl))
 
--- what a forged completion's place is
+-- what a forged completion's address is
 pub record IsSlot (s : Sides) (q slot place : ℕ) : Type 0 where
   pub queue : HostQueue
   pub here : slice_get s.host.host.queues q ≡ Some queue
@@ -186,12 +186,12 @@ pub forges_none : (s : Sides) (q slot : ℕ) (bytes : List ℕ) → in_state is_
 forges_none s q slot bytes reaped below = rw (reaped, lt-leb s.host.entries slot below) refl
 
 pub slot_is : (s : Sides) (q slot base : ℕ) (bytes : List ℕ) → IsWorld s → Some base ≡ completion_base s.host q → in_state is_reaped (alone s.host []) q ≡ true → slot < s.host.entries → IsSlot s q slot (base + 16 * slot)
-slot_is s q slot base bytes l at reaped below = go (slice_get s.host.host.queues q) refl (sym at)
+slot_is s q slot base bytes l at reaped below = by_queue (slice_get s.host.host.queues q) refl (sym at)
   where
-    go : (o : Option HostQueue) → slice_get s.host.host.queues q ≡ o
+    by_queue : (o : Option HostQueue) → slice_get s.host.host.queues q ≡ o
         → option_and_then (λ queue. if is_reaped queue.state then option_map (λ page. 4096 * page) (slice_get queue.cq_pages 0) else None) o ≡ Some base → IsSlot s q slot (base + 16 * slot)
-    go None here is = absurd cc
-    go (Some h) here is =
+    by_queue None here is = absurd cc
+    by_queue (Some h) here is =
         let first = first_completion_page h in
         let place : base + 16 * slot ≡ completion_place first slot = ap (λ (n : ℕ). n + 16 * slot) (begins_at (is_reaped h.state) h.cq_pages base is) in
         let there = slots_are_in s q slot bytes h l (forges_none s q slot bytes reaped below) here in
@@ -203,7 +203,7 @@ slot_is s q slot base bytes l at reaped below = go (slice_get s.host.host.queues
           fits = subst (λ (n : ℕ). n < 268435456) (sym place) (in_pool s.pages (completion_place first slot) l.sides.over.pool (λ none. there (none_at (byte_at s.pages) (completion_place first slot) 16 none (omega arith))));
         }
 
--- The call: its place, counted from where the ring begins, and what it leaves
+-- The call: its address, counted from where the ring begins, and what it leaves
 
 pub slot_at : (s : Sides) (q slot base from count : ℕ) → IsWorld s → Some base ≡ completion_base s.host q → true ≡ in_state is_reaped (alone s.host []) q → slot < count → count ≡ s.host.entries → from ≡ slot
     → IsSlot s q slot (base + 16 * from)
@@ -225,7 +225,7 @@ forge_goes s q slot place count bytes cleared new l live below entries at many s
 
 -- What it is refused for
 
--- A reset of both sides is a step of the machine, behind which they agree.
+-- A reset of both sides is a step of the machine, after which they agree.
 
 -- no command is left at the controller
 reset_controller : (c : Contents) → IsController (reset c)
@@ -248,7 +248,7 @@ agree_behind g trusted = (OnTrue_at trusted g.world.tied).agree
 
 -- A world as it opens.
 
--- Where halves begin, a queue more
+-- Where halves begin, with one more queue
 
 abbrev pub at_page : ℕ → ℕ → QueuePages
 at_page n page = record { sq = page; cq = page + half_pages n Submission }

@@ -14,8 +14,8 @@ use Rattle.step_core.specs.declared.step.Reply.TheVariants as reply
 
 -- The machine's steps
 
--- the event of the machine that a step is, with the value that the bench keeps under the step's name: none where it keeps none, and
--- none of a step of a kept value alone
+-- the event of the machine that a step is, with the value that the bench keeps under
+-- the step's name: none where it keeps none, and none for a step of a kept value alone
 abbrev pub event_at : Table → Step → Option Event
 event_at t (step.Reserve q request) = Some (events.Reserve q request)
 event_at t (step.Submit q cid) = option_map events.Submit (draft_of q cid t.drafts)
@@ -58,7 +58,7 @@ asked (events.Complete q cid) = step.Complete q cid
 asked (events.Forge q slot bytes) = step.Forge q slot bytes
 asked events.Reset = step.Reset
 
--- what a step answers of the machine's reply: all of it, but for a draft's and a finished command's contents
+-- what a step answers of the machine's reply: all of it, except a draft's and a finished command's contents
 abbrev pub told : events.Reply → Reply
 told (events.Reserved d) = reply.Reserved d.q d.cid (length d.data_pages) (length d.chain_pages)
 told events.Accepted = reply.Accepted
@@ -70,7 +70,7 @@ told (events.Walked state touched) = reply.Walked state touched
 told (events.Completed touched) = reply.Completed touched
 told (events.Refused why touched) = reply.Refused why touched
 
--- the values that are kept behind a reply: what comes is kept, and what was taken is gone
+-- the values that are kept after a reply: what comes is kept, and what was taken is gone
 abbrev pub kept : Table → Step → events.Reply → Table
 kept t (step.Reserve q request) (events.Reserved d) = record t { drafts = t.drafts ++ d ∷ [] }
 kept t (step.Submit q cid) events.Accepted = record t { drafts = without_first (is_draft q cid) t.drafts; tickets = t.tickets ++ (q, cid) ∷ [] }
@@ -79,7 +79,7 @@ kept t (step.Collect q cid) (events.Collects f) = record t { tickets = without_f
 kept t (step.Release q cid) events.Accepted = record t { finished = without_first (is_finished q cid) t.finished }
 kept t what answer = t
 
--- a step of the machine: its event is answered, the answer tells of that reply, and the values are kept behind it
+-- a step of the machine: its event is answered, the answer reports that reply, and the values are kept after it
 pub record Makes (t : Table) (what : Step) (event : Event) (answer : Reply) (new : Table) : Type 0 where
   pub reply : events.Reply
   pub tells : answer ≡ told reply
@@ -125,7 +125,7 @@ DoesBy None t what answer new = IsOwn t what answer new
 abbrev pub Does : Table → Step → Reply → Table → Type 0
 Does t what answer new = DoesBy (event_at t what) t what answer new
 
--- Steps and answers of which each is what a step does from where the one before led
+-- Steps and answers, each of which is what a step does from where the one before led
 abbrev pub DoesAll : Table → List Step → List Reply → Table → Type 0
 DoesAll t [] [] new = new ≡ t
 DoesAll t (what ∷ steps) (answer ∷ answers) new = (mid : Table) × Does t what answer mid × DoesAll mid steps answers new

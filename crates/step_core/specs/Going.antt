@@ -41,8 +41,7 @@ pub record GoesOn (t : Table) (what : Step) : Type 0 where
 abbrev pub benches_go_on : Type 0
 benches_go_on = (t : Table) (what : Step) → IsTableInOrder t → IsFitStep what → GoesOn t what
 
--- in a trusted world, what a step's answer tells of the machine's reply names allowed pages alone, and only those of its own queue or
--- command
+-- in a trusted world, what a step's answer reports of the machine's reply names only allowed pages, and only those of its own queue or command
 abbrev pub benches_touch_what_they_may : Type 0
 benches_touch_what_they_may =
     (t : Table) (what : Step) (answer : Reply) (new : Table) (e : Event) (r : events.Reply)
@@ -59,7 +58,7 @@ abbrev pub has_forgery : List Step → List Reply → Bool
 has_forgery (what ∷ steps) (answer ∷ answers) = forges_by what answer || has_forgery steps answers
 has_forgery steps answers = false
 
--- what a bench did since it opened, if none of its steps is an accepted forgery, is a run of which the machine's laws speak, resets and all
+-- what a bench did since it opened, if none of its steps is an accepted forgery, is a run to which the machine's laws apply, resets and all
 abbrev pub benches_make_trusted_runs : Type 0
 benches_make_trusted_runs =
     (config : Config) (image : List ℕ) (steps : List Step) (answers : List Reply) (new : Table) → refusal_of_config config ≡ None → IsImage image

@@ -3,7 +3,7 @@ use Rattle.std.specs.Prelude.{Option, Some, None, List, [], ◌∷◌}
 use Rattle.machine_model.specs.{Events.Event, Image.Made, Script.Table, Trusted.Steps}
 use Rattle.step_core.specs.{Bench.{DoesBy, DoesAll, event_at}, Values.{Reply, Step}}
 
--- the machine's steps from a step on: it is one more where it is an event, with the reply of which its answer tells
+-- the machine's steps starting at a step: one more where that is an event, with the reply that its answer reports
 abbrev pub made_from : (event : Option Event) (t : Table) (what : Step) (answer : Reply) (new : Table) → DoesBy event t what answer new → List Made → List Made
 made_from (Some e) t what answer new makes made = record { before = t.world; event = e; reply = makes.reply } ∷ made
 made_from None t what answer new own made = made

@@ -1,10 +1,10 @@
--- What looks at a world tell: what would be answered, want of memory left aside.
+-- What looks at a world tell: what would be answered, lack of memory aside.
 use Rattle.std.specs.Prelude.{◌≡◌, ℕ, Bool, false, ◌&&◌, is_none, is_some}
 use Rattle.controller_core.specs.declared.look.ControllerStep.{ControllerStep, TheVariants.{Fetch, Walk, Complete}}
 use Rattle.machine_model.specs.{Events.Event, Refusals.{refusal_of, seen_entry}, State.State}
 use Rattle.machine_model.specs.Events as events
 
--- whether nothing is against an event
+-- whether nothing refuses an event
 abbrev pub is_possible : State → Event → Bool
 is_possible s e = is_none (refusal_of s e)
 

@@ -19,7 +19,7 @@ pub record ShowsHalves (s : State) (q : ℕ) (rings : Rings) : Type 0 where
   pub submission : is_some rings.submission ≡ not (is_absent_at s.controller.queues q)
   pub completion : is_some rings.completion ≡ has_completions_at s.controller.queues q
 
--- as many entries were rung and not fetched as lie from the controller's head to the tail that was rung
+-- as many entries were announced and not fetched as lie from the controller's head to the tail in its doorbell
 abbrev pub TellsRung : State → ℕ → Rings → Type 0
 TellsRung s q rings =
     IfSome rings.submission (λ at. distance s.entries at.head at.tail_doorbell ≡ option_map_or (λ queue. queue.rung) (slice_get s.controller.queues q) 0)
@@ -28,7 +28,7 @@ TellsRung s q rings =
 abbrev pub TellsFetching : State → ℕ → Rings → Type 0
 TellsFetching s q rings = IfSome rings.submission (λ at. at.head ≡ fetch_slot s q)
 
--- and its completion tail is where the machine posts next, the completion head that was rung is the host's, and the host expects at its head the phase
+-- and its completion tail is where the machine posts next, the completion head in the doorbell is the host's, and the host expects at its head the phase
 -- tag of the controller's pass, or the one of the pass before.
 pub record IsPosting (s : State) (q : ℕ) (rings : Rings) (at : PostPositions) : Type 0 where
   pub tail : at.tail ≡ post_slot s q

@@ -16,7 +16,7 @@ use Rattle.step_core.specs.declared.step.Reply.TheVariants as reply
 abbrev pub StaysAllowed : State → Event → Reply → Type 0
 StaysAllowed s e reply = OnTrue s.trusted (IsTrue (stays_allowed s reply && stays_own s e reply))
 
--- a count of touches behind so many more
+-- a count of touches after this many more
 abbrev pub touches_more : ℕ → ℕ → ℕ
 touches_more touches zero = touches
 touches_more touches (suc n) = counted touches (suc n)
@@ -25,7 +25,7 @@ touches_more touches (suc n) = counted touches (suc n)
 abbrev pub TellsAll : ℕ → Reply → ℕ → Type 0
 TellsAll touches reply touches' = touches' ≡ touches_more touches (length (touched_by reply))
 
--- How many pages an event touches where rings have n entries, by what it is answered: a step of the controller those that it tells, a forgery
+-- How many pages an event touches where rings have n entries, by its reply: a step of the controller those that it reports, a forgery
 -- the page of its slot, and each other event what it touches at the host.
 abbrev pub event_touches : (n : ℕ) → Event → Reply → ℕ
 event_touches n (events.Fetch q) reply = length (touched_by reply)
@@ -34,11 +34,11 @@ event_touches n (events.Complete q cid) reply = length (touched_by reply)
 event_touches n (events.Forge q slot bytes) events.Accepted = 1
 event_touches n e reply = host_touches n e reply
 
--- a count of touches behind an event that was answered so
+-- a count of touches after an event with this reply
 abbrev pub Touches : (n touches : ℕ) → Event → Reply → (touches' : ℕ) → Type 0
 Touches n touches e reply touches' = touches' ≡ touches_more touches (event_touches n e reply)
 
--- a look touched so many pages at most
+-- a look touched at most this many pages
 pub record LooksAtMost (most touches touches' : ℕ) : Type 0 where
   pub pages : ℕ
   pub few : pages ≤ most
@@ -58,7 +58,7 @@ sent_step_touches n (step.CreateCq q vector) = half_pages n Completion + 1
 sent_step_touches n (step.CreateSq q) = half_pages n Submission + 1
 sent_step_touches n what = 1
 
--- the controller's steps touch what they tell; of the host's a retirement looks at a ring that is not drained
+-- the controller's steps touch what they report; of the host's, a retirement looks at a ring that is not drained
 abbrev pub refused_step_touches : Step → Refusal → List ℕ → ℕ
 refused_step_touches (step.Fetch q) why touched = length touched
 refused_step_touches (step.Walk q cid) why touched = length touched
@@ -84,6 +84,6 @@ step_touches n what (reply.Sent cid) new = sent_step_touches n what
 step_touches n what (reply.Refused why touched) new = refused_step_touches what why touched
 step_touches n what answer new = 0
 
--- a count of touches behind a step of a bench that answered so
+-- a count of touches after a step of a bench with this answer
 abbrev pub StepTouches : (n touches : ℕ) → Step → values.Reply → Table → (touches' : ℕ) → Type 0
 StepTouches n touches what answer new touches' = touches' ≡ touches_more touches (step_touches n what answer new)

@@ -34,9 +34,9 @@ impl<A: Allocator + Copy> World<A> {
         self.host.reserve(&mut self.store, q, request)
     }
 
-    /// Submits a draft that is built: its pages come in with their bytes, and its entry stands behind the tail of its queue (NVM
-    /// Express Base Specification 2.0, "Memory-based transport queue model", section 3.3.1). The controller may fetch it once the queue
-    /// is rung. The ticket is the draft's.
+    /// Submits a built draft: its pages come in with their bytes, and its entry is appended at the tail
+    /// of its queue (NVM Express Base Specification 2.0, "Memory-based transport queue model", section
+    /// 3.3.1). The controller may fetch it once the queue's doorbell is rung. The ticket is the draft's.
     ///
     /// # Errors
     ///

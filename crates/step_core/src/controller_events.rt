@@ -15,7 +15,7 @@ use machine_model::words::Refusal;
 use page_memory::TouchRecord;
 use std::alloc::Allocator;
 
-/// The machine's word for a cause that the controller tells.
+/// The machine's word for a cause that the controller reports.
 fn word_of(why: controller_core::Refusal) -> Refusal
     ensures { result ≡ why_of why }
 {
@@ -87,12 +87,12 @@ impl<A: Allocator + Copy> World<A> {
     /// Where nothing was forged, an entry of an I/O queue begins a job: where a field check fails, that is its verdict, and a Read takes
     /// its blocks from the image as it is now. An entry of queue 0 is decided here: an Abort stops its command, the deletion of a
     /// submission queue stops that queue and its commands, the deletion of a completion queue drops it, and a creation makes its queue.
-    /// An identifier that is fetched from the queue and not completed gets its completion at once, with Command ID Conflict.
+    /// An entry with the identifier of a fetched, uncompleted command of the queue is completed at once, with Command ID Conflict.
     ///
     /// # Errors
     ///
     /// Nothing changed. Where nothing was forged, it is the first of these that holds, else any of them: 1. `Idle`: there is no such
-    /// queue, nothing is fetched from it any more, or nothing is rung. 2. `SlotOut`: the page of the entry's slot is out. Where the
+    /// queue, nothing is fetched from it any more, or its doorbell announced nothing. 2. `SlotOut`: the page of the entry's slot is out. Where the
     /// completion is posted at once: 3. `Full`: the completion ring is full. 4. `SlotOut`: the page of the completion's slot is out.
     /// Else 5. `Memory`, where memory is refused.
     pub fn fetch(&mut self, q: u16) -> Result<Fetched, StepRefused>
@@ -108,7 +108,7 @@ impl<A: Allocator + Copy> World<A> {
 
     /// The controller does the next unit of the list of a fetched command (NVM Express Base Specification 2.0, "Scatter Gather
     /// List (SGL)", section 4.1.2): it takes a descriptor, or moves the bytes of one page. Where nothing was forged, it answers `End` or a
-    /// fault with the last unit, which is then the command's verdict. No memory is taken.
+    /// fault with the last unit, which is then the command's verdict. No memory is allocated.
     ///
     /// # Errors
     ///
@@ -125,9 +125,9 @@ impl<A: Allocator + Copy> World<A> {
         walked(answer, touched_by(&self.store))
     }
 
-    /// The controller posts the completion of a fetched command, and forgets the command (NVM Express Base Specification 2.0, "Common
-    /// Completion Queue Entry", section 3.3.3.2). Where nothing was forged, a Write that ends well changes the image here, and behind a
-    /// successful deletion of a submission queue that is not there.
+    /// The controller posts the completion of a fetched command, and forgets the command (NVM Express Base Specification 2.0, "Common Completion
+    /// Queue Entry", section 3.3.3.2). Where nothing was forged, a Write that ends well changes the image here, and a successful deletion of a
+    /// submission queue removes that queue.
     ///
     /// # Errors
     ///

@@ -4,7 +4,7 @@ use crate::world::World;
 use io_commands::{Draft, Finished, Ticket};
 use std::alloc::Allocator;
 
-/// A world that has ended. It is shown to spend the values that are still about; [`World::end`] alone makes one.
+/// A world that has ended. It is shown to spend the values that are still around; [`World::end`] alone makes one.
 #[derive(Debug, Drop)]
 pub struct Ended {
     spent: (),
@@ -17,7 +17,7 @@ pub trait Leftover {
 }
 
 impl<A: Allocator> World<A> {
-    /// Ends the world, with all that it holds. It takes no memory.
+    /// Ends the world, with all that it holds. It allocates no memory.
     pub fn end(self) -> Ended {
         Ended { spent: () }
     }

@@ -12,9 +12,8 @@ use page_memory::{Dma, TouchRecord};
 use std::alloc::Allocator;
 
 impl<A: Allocator + Copy> World<A> {
-    /// Puts any 16 bytes into a completion slot, as a controller at fault might. From then on, until a [`World::reset`], the world is
-    /// not trusted: the controller may do anything with its own part and with the bytes of the pages that are in, and what the host keeps
-    /// stands all the same.
+    /// Puts any 16 bytes into a completion slot, as a controller at fault might. From then on, until a [`World::reset`], the world is not trusted:
+    /// the controller may do anything with its own part and with the bytes of the pages that are in, and what the host keeps still holds.
     ///
     /// # Errors
     ///

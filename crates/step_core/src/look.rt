@@ -1,4 +1,4 @@
-//! What would be answered: looks that change nothing but the count of touches, for those who wait until the answer is another.
+//! What would be answered: looks that change nothing but the count of touches, for callers that wait until the answer changes.
 
 ghost use Rattle.std.specs.Prelude.{◌≡◌, ◌+◌, ◌*◌, ◌<◌, ◌≤◌, ℕ, true, false, Some, None, OnOk, OnErr, IfOk, IfSome, IfNone, IsTrue, length, option_and_then};
 ghost use Rattle.std.specs.Result.{result_err};
@@ -22,14 +22,14 @@ impl<A: Allocator + Copy> World<A> {
     ghost use Rattle.step_core.specs.Looks.{has_completion as spec_has_completion, event_of, IsAtRest};
     ghost use Rattle.step_core.specs.Touching.{LooksAtMost};
 
-    /// What [`World::reserve`] would be refused for, want of memory left aside. It makes no step.
+    /// What [`World::reserve`] would be refused for, lack of memory aside. It makes no step.
     pub fn reserve_refusal(&self, q: u16, request: &Request<A>) -> Option<Refusal>
         ensures { result ≡ refusal_of self.now.state (events.Reserve q request.now) }
     {
         self.host.reserve_refusal(q, request)
     }
 
-    /// The fewest pages that a request takes here, wherever it is placed. It makes no step and takes no memory.
+    /// The fewest pages that a request takes here, wherever it is placed. It makes no step and allocates no memory.
     ///
     /// # Errors
     ///
@@ -41,7 +41,7 @@ impl<A: Allocator + Copy> World<A> {
         self.host.least_pages(request)
     }
 
-    /// What [`World::collect`] of this command's ticket would be refused for, want of memory left aside. It makes no step.
+    /// What [`World::collect`] of this command's ticket would be refused for, lack of memory aside. It makes no step.
     pub fn collect_refusal(&self, q: u16, cid: u16) -> Option<Refusal>
         ensures { result ≡ refusal_of self.now.state (events.Collect q cid) }
     {
@@ -82,12 +82,13 @@ impl<A: Allocator + Copy> World<A> {
         None
     }
 
-    /// Fills the buffer, of 1 to 4,096 bytes, with the bytes of the pool from an address on, as somebody who looks into a driver reads them. It makes no step; the one
-    /// or two pages in which the bytes lie are touched.
+    /// Fills the buffer, of 1 to 4,096 bytes, with the bytes of the pool starting at an address, as someone inspecting a driver reads them. It makes
+    /// no step; the one or two pages in which the bytes lie are touched.
     ///
     /// # Errors
     ///
-    /// `Unreadable` exactly where a byte is missing: outside of the pool, or on a page that a drafted or collected command has. The buffer is as it was.
+    /// `Unreadable` exactly where a byte is missing: outside of the pool, or on
+    /// a page that a drafted or collected command has. The buffer is unchanged.
     pub fn read(&mut self, addr: u64, into: &mut [u8]) -> Result<(), Unreadable>
         requires some { 0 < length into.old }
         requires few { length into.old ≤ 4096 }
@@ -103,8 +104,9 @@ impl<A: Allocator + Copy> World<A> {
         answer
     }
 
-    /// A step that the controller can do, if there is one. It makes no step. Where the world is trusted, the answer is exact: what is answered
-    /// is not refused, but for want of memory, and `None` says that each step of the controller is. It touches two pages of each queue at most, and one of a completion.
+    /// A step that the controller can do, if there is one. It makes no step. Where the world is trusted, the
+    /// answer is exact: what is answered is not refused, except for lack of memory, and `None` says that
+    /// each step of the controller is. It touches two pages of each queue at most, and one of a completion.
     pub fn next_step(&mut self) -> Option<ControllerStep>
         ensures possible { IfSome result (λ step. IsTrue self.old.state.trusted → refusal_of self.old.state (event_of step) ≡ None) }
         ensures rest { IfNone result (IsTrue self.old.state.trusted → IsAtRest self.old.state) }

@@ -27,7 +27,7 @@ pub struct OpenRefused<A: Allocator = Global> {
     pub why: OpenRefusal,
 }
 
-/// Where the halves of so many queues begin: they are the lowest pages, one queue's behind the other's.
+/// Where the halves of this many queues begin: they are the lowest pages, one queue's after the other's.
 fn halves(entries: u16, count: u16) -> ArrayVec<QueuePages, 65>
     requires few { count ≤ 65 }
     requires most { entries ≤ 1024 }
@@ -67,7 +67,7 @@ impl<A: Allocator + Copy> World<A> {
         }
     }
 
-    /// Opens a world over an image, with the host that opened.
+    /// Opens a world over an image, with a host that was opened.
     ///
     /// # Errors
     ///

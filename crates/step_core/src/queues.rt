@@ -1,4 +1,4 @@
-//! Queues: they are rung, reaped, deleted and retired, and their commands are aborted.
+//! Queues: ringing, reaping, deleting and retiring them, and aborting their commands.
 
 ghost use Rattle.std.specs.Prelude.{◌≡◌};
 ghost use Rattle.machine_model.specs.Events as events;
@@ -29,12 +29,12 @@ impl<A: Allocator + Copy> World<A> {
     /// Looks at the head of a queue's completion ring, and takes the completion there, if there is a new one (NVM Express Base
     /// Specification 2.0, "Common Completion Queue Entry", section 3.3.3.2).
     ///
-    /// The answer is `Empty` where there is none. A completion that names another queue, a submission head that does not lie from the known
-    /// head to the tail, or no submitted command is `Rejected`: it is taken, the head is rung, and nothing else changes. Any other ends
-    /// its command: `Done` tells the identifier of an I/O command and how it ended, and its pages stay its own; `AdminDone` tells the same
-    /// of a command of queue 0, with its double word, and that command is over: a queue that it deletes or makes takes the state that
-    /// this end means; the completion half of a deleted completion queue that was left alone, and the half of a failed creation, are given
-    /// back. The submission head that it tells is known from then on, of an I/O command too.
+    /// The answer is `Empty` where there is none. A completion that names another queue, a submission head outside the range from the known head to
+    /// the tail, or no submitted command is `Rejected`: it is taken, the head doorbell is rung, and nothing else changes. Any other ends its command:
+    /// `Done` gives the identifier of an I/O command and how it ended, and its pages stay its own; `AdminDone` gives the same for a command of queue
+    /// 0, with its Dword 0, and that command is over: a queue that it deletes or makes takes the state that this end means; the completion half
+    /// of a deleted completion queue that was its only half, and the half of a failed creation, are given back. The submission head that it gives is
+    /// known from then on, for an I/O command too.
     ///
     /// # Errors
     ///
@@ -51,8 +51,8 @@ impl<A: Allocator + Copy> World<A> {
         Ok(reap.found)
     }
 
-    /// Sends an Abort of a submitted command (NVM Express Base Specification 2.0, "Abort command", section 5.1). It stands behind the
-    /// tail of queue 0 under the identifier that is answered.
+    /// Sends an Abort of a submitted command (NVM Express Base Specification 2.0, "Abort command", section 5.1). It is appended at the tail of queue
+    /// 0 under the identifier that is answered.
     ///
     /// # Errors
     ///
@@ -67,7 +67,7 @@ impl<A: Allocator + Copy> World<A> {
     }
 
     /// Sends the deletion of a submission queue, which takes no more commands (NVM Express Base Specification 2.0, "Delete I/O
-    /// Submission Queue command", section 5.7). It stands behind the tail of queue 0 under the identifier that is answered.
+    /// Submission Queue command", section 5.7). It is appended at the tail of queue 0 under the identifier that is answered.
     ///
     /// # Errors
     ///
@@ -82,14 +82,13 @@ impl<A: Allocator + Copy> World<A> {
     }
 
     /// Sends the deletion of a completion queue (NVM Express Base Specification 2.0, "Delete I/O Completion Queue command", section 5.6).
-    /// It stands behind the tail of queue 0 under the identifier that is answered.
+    /// It is appended at the tail of queue 0 under the identifier that is answered.
     ///
     /// # Errors
     ///
-    /// Nothing changed. 1. `NoQueue` for queue 0, an unknown queue, and one that is gone. 2. `WrongState`
-    /// where its submission side is being deleted or a half of it is being made, or it has its completion half alone and a deletion
-    /// of that is outstanding.
-    /// 3. `NoIdentifier` where each identifier of queue 0 is outstanding. 4. `QueueFull` where the submission ring of queue 0 is full.
+    /// Nothing changed. 1. `NoQueue` for queue 0, an unknown queue, and one that is gone. 2. `WrongState` where its submission side is being deleted
+    /// or a half of it is being made, or it has only its completion half and a deletion of that is outstanding. 3. `NoIdentifier` where each
+    /// identifier of queue 0 is outstanding. 4. `QueueFull` where the submission ring of queue 0 is full.
     pub fn delete_cq(&mut self, q: u16) -> Result<u16, Refusal>
         ensures step { Step self.old.state (events.DeleteCq q) (send_reply result) self.new.state }
         ensures touches { Touches self.old.state.entries self.old.touches (events.DeleteCq q) (send_reply result) self.new.touches }
@@ -97,16 +96,15 @@ impl<A: Allocator + Copy> World<A> {
         self.host.delete_cq(&mut self.store, q)
     }
 
-    /// Makes the completion queue of a queue that is gone (NVM Express Base Specification 2.0, "Create I/O Completion Queue command",
-    /// section 5.4): its half is granted, in and zero, and the command that creates it stands behind the tail of queue 0 under the
-    /// identifier that is answered. The command tells the device the vector of its interrupts, or that it is polled; this controller
-    /// raises none.
+    /// Makes the completion queue of a queue that is gone (NVM Express Base Specification 2.0, "Create I/O Completion Queue command", section 5.4):
+    /// its half is granted, in and zero, and the command that creates it is appended at the tail of queue 0 under the identifier that is answered.
+    /// The command tells the device the vector of its interrupts, or that it is polled; this controller raises none.
     ///
     /// # Errors
     ///
-    /// Nothing changed. 1. `NoQueue` for queue 0 and an unknown queue. 2. `WrongState` where the queue is not gone. 3. `Outstanding` where a
-    /// command of the queue is outstanding. 4. `NoIdentifier` where each identifier of queue 0 is outstanding. 5. `NoRun` where no run of so
-    /// many consecutive pages is free. 6. `QueueFull` where the submission ring of queue 0 is full.
+    /// Nothing changed. 1. `NoQueue` for queue 0 and an unknown queue. 2. `WrongState` where the queue is not gone. 3. `Outstanding` where a command
+    /// of the queue is outstanding. 4. `NoIdentifier` where each identifier of queue 0 is outstanding. 5. `NoRun` where no run of that many
+    /// consecutive pages is free. 6. `QueueFull` where the submission ring of queue 0 is full.
     pub fn create_cq(&mut self, q: u16, vector: Option<u16>) -> Result<u16, Refusal>
         ensures step { Step self.old.state (events.CreateCq q vector) (send_reply result) self.new.state }
         ensures touches { Touches self.old.state.entries self.old.touches (events.CreateCq q vector) (send_reply result) self.new.touches }
@@ -114,15 +112,15 @@ impl<A: Allocator + Copy> World<A> {
         self.host.create_cq(&mut self.store, q, vector)
     }
 
-    /// Makes the submission queue of a queue that is half made (NVM Express Base Specification 2.0, "Create I/O Submission Queue
-    /// command", section 5.5): its half is granted, in and zero, and the command that creates it stands behind the tail
-    /// of queue 0 under the identifier that is answered.
+    /// Makes the submission queue of a queue that is half made (NVM Express Base Specification 2.0,
+    /// "Create I/O Submission Queue command", section 5.5): its half is granted, in and zero, and the
+    /// command that creates it is appended at the tail of queue 0 under the identifier that is answered.
     ///
     /// # Errors
     ///
     /// Nothing changed. 1. `NoQueue` for queue 0 and an unknown queue. 2. `WrongState` where the queue is not half made, or the deletion of its
-    /// completion queue is outstanding. 3. `NoIdentifier` where each identifier of queue 0 is outstanding. 4. `NoRun` where no run of so
-    /// many consecutive pages is free. 5. `QueueFull` where the submission ring of queue 0 is full.
+    /// completion queue is outstanding. 3. `NoIdentifier` where each identifier of queue 0 is outstanding. 4. `NoRun` where no run of that many
+    /// consecutive pages is free. 5. `QueueFull` where the submission ring of queue 0 is full.
     pub fn create_sq(&mut self, q: u16) -> Result<u16, Refusal>
         ensures step { Step self.old.state (events.CreateSq q) (send_reply result) self.new.state }
         ensures touches { Touches self.old.state.entries self.old.touches (events.CreateSq q) (send_reply result) self.new.touches }
@@ -130,7 +128,7 @@ impl<A: Allocator + Copy> World<A> {
         self.host.create_sq(&mut self.store, q)
     }
 
-    /// Gives the submission half of a deleted queue back, and ends its submitted commands.
+    /// Gives back the submission half of a deleted queue, and ends its submitted commands.
     ///
     /// Each of those is held with the status "Command Aborted due to SQ Deletion", as if its completion had been reaped; its pages
     /// stay its own until it is collected and released. The pages of the submission half are free, and the queue is retired.
@@ -138,7 +136,7 @@ impl<A: Allocator + Copy> World<A> {
     /// # Errors
     ///
     /// Nothing changed. 1. `NotDeleted` where there is no such queue, or the success of its deletion was not reaped, or it was retired or
-    /// reset since. 2. `NotDrained` where a new completion stands at the head of its completion ring.
+    /// reset since. 2. `NotDrained` where a new completion is at the head of its completion ring.
     pub fn retire(&mut self, q: u16) -> Result<(), Refusal>
         ensures step { Step self.old.state (events.Retire q) (ring_reply result) self.new.state }
         ensures touches { Touches self.old.state.entries self.old.touches (events.Retire q) (ring_reply result) self.new.touches }

@@ -57,7 +57,7 @@ pub struct Completed {
     pub touched: Touched,
 }
 
-/// These pages, of which there are few.
+/// These few pages.
 fn listed(numbers: &[PageNo]) -> Touched
     requires { length numbers.now ≤ 4 }
     ensures { result ≡ numbers.now }
@@ -86,7 +86,7 @@ impl Touched {
         }
     }
 
-    /// The same pages once more, to be kept beside an answer that is handed on. It takes no memory.
+    /// A copy of these pages, to be kept beside an answer that is handed on. It allocates no memory.
     pub fn copied(&self) -> Touched
         ensures { result ≡ self.now }
     {

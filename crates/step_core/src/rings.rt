@@ -19,7 +19,7 @@ use std::alloc::Allocator;
 pub struct FetchPositions {
     /// The submission head: the slot of the next entry to fetch.
     pub head: u16,
-    /// The submission tail that was rung last.
+    /// The submission tail last written to the doorbell.
     pub tail_doorbell: u16,
 }
 
@@ -30,7 +30,7 @@ pub struct PostPositions {
     pub tail: u16,
     /// The phase tag that it gets there.
     pub phase: bool,
-    /// The completion head that was rung last.
+    /// The completion head last written to the doorbell.
     pub head_doorbell: u16,
 }
 
@@ -82,8 +82,8 @@ fn posting(queue: &ControllerQueue) -> Option<PostPositions>
 
 impl<A: Allocator> World<A> {
     /// Where both sides stand in the rings of a queue, if there is one of this number. Nothing is touched; it looks at each command that is
-    /// outstanding. What stands of the controller's positions in the machine's state is told exactly: which halves it has, and how much was
-    /// rung and not fetched; where nothing was forged each of its positions.
+    /// outstanding. What the machine's state says of the controller's positions is reported exactly: which halves it has, and how much was announced
+    /// and not fetched; where nothing was forged, each of its positions.
     pub fn rings(&self, q: u16) -> Option<Rings>
         ensures state { option_map (λ rings. rings.state) result ≡ option_map (λ queue. queue.state) (slice_get self.now.state.host.queues q) }
         ensures host { option_map (λ rings. rings.host) result ≡ option_map (λ queue. host_positions queue.ring) (slice_get self.now.state.host.queues q) }

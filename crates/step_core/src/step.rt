@@ -123,7 +123,7 @@ pub enum Step<R = Request, B = Bytes> {
         /// Its identifier.
         cid: u16,
     },
-    /// Gather a Read's bytes from a finished command; of another kind there are none.
+    /// Gather a Read's bytes from a finished command; another kind has none.
     Gather {
         /// The command's queue.
         q: u16,
@@ -184,7 +184,7 @@ pub enum Step<R = Request, B = Bytes> {
     Reset,
 }
 
-/// A step whose request and bytes stand in the memory of one allocator.
+/// A step whose request and bytes are in the memory of one allocator.
 pub type StepIn<A> = Step<Request<A>, Bytes<A>>;
 
 /// What a step of a bench answered.
@@ -201,7 +201,7 @@ pub enum Reply<B = Bytes> {
         /// How many chain pages it has.
         chain: u32,
     },
-    /// The step was done, and there is no more to say.
+    /// The step was done, with nothing more to report.
     Accepted,
     /// An entry was fetched.
     Fetched {
@@ -228,10 +228,10 @@ pub enum Reply<B = Bytes> {
     Collected {
         /// How it ended.
         status: Status,
-        /// What its completion hinted at.
+        /// The hints of its completion.
         hints: Hints,
     },
-    /// A Read's bytes, and none of another kind.
+    /// A Read's bytes; none for another kind.
     Gathered(B),
     /// An admin command was sent, under this identifier of queue 0.
     Sent {
@@ -251,11 +251,11 @@ pub enum Reply<B = Bytes> {
     },
 }
 
-/// What a step answered, where its bytes stand in the memory of one allocator.
+/// What a step answered, where its bytes are in the memory of one allocator.
 pub type ReplyIn<A> = Reply<Bytes<A>>;
 
 impl<B> Reply<B> {
-    /// What is answered of a command that was reserved.
+    /// The reply for a command that was reserved.
     pub fn reserved<A: Allocator>(draft: &Draft<A>) -> Self
         ensures { result ≡ Reply.Reserved draft.now.q draft.now.cid (length draft.now.data_pages) (length draft.now.chain_pages) }
     {

@@ -13,7 +13,7 @@ use page_memory::{PageNo, TouchRecord};
 use std::alloc::Allocator;
 
 impl<A: Allocator> World<A> {
-    /// The owner of a page of the pool: that of the one claim in which it stands.
+    /// The owner of a page of the pool: that of the one claim that contains it.
     pub fn owner(&self, p: PageNo) -> Owner
         requires { p < length self.now.state.memory }
         ensures { Contains (claims_of self.now.state.host) (p, result) }
@@ -73,8 +73,8 @@ impl<A: Allocator> World<A> {
         self.trusted
     }
 
-    /// How many pages were touched since the world opened, each as often as it was: by steps of either side and by looks. Behind 2^64 - 1 it
-    /// begins at 0 again.
+    /// How many pages were touched since the world opened, each counted as often as it
+    /// was: by steps of either side and by looks. After 2^64 - 1 it begins at 0 again.
     pub fn touches(&self) -> u64
         ensures { result ≡ self.now.touches }
     {
@@ -82,7 +82,7 @@ impl<A: Allocator> World<A> {
     }
 
     /// Shows that the world is sound, whatever was forged: each page has one owner, the counts add up to the pool, no identifier
-    /// of a queue is outstanding twice, a page is out just where a drafted or collected command has it, queue 0 is live, and all else that
+    /// of a queue is outstanding twice, a page is out exactly where a drafted or collected command has it, queue 0 is live, and all else that
     /// `IsSound` says. It does nothing.
     pub fn check(&self)
         ensures { IsSound self.now.state }

@@ -7,7 +7,6 @@ use std::alloc::{Allocator, Global};
 use std::marker::Model;
 
 /// A driver and its controller, over one pool of pages. Contracts see the machine's state, and how many pages were touched so far.
-#[derive(Drop)]
 pub struct World<A: Allocator = Global> {
     /// The driver's side.
     pub(crate) host: Host<A>,
@@ -17,6 +16,17 @@ pub struct World<A: Allocator = Global> {
     pub(crate) store: Store<A>,
     /// Whether nothing was forged since the opening or the last reset.
     pub(crate) trusted: bool,
+}
+
+impl<A: Allocator> Drop for World<A> {
+    fn drop(self) {
+        let Self {
+            host: _,
+            controller: _,
+            store: _,
+            trusted: _,
+        } = self;
+    }
 }
 
 impl<A: Allocator> Model for World<A> {

@@ -5,10 +5,10 @@ use crate::tally::Tally;
 use std::alloc::{AllocError, Allocator};
 use std::sync::atomic::{AtomicU64, Ordering};
 
-/// An allocator that passes each call on to another, but for the calls for memory that it was told to refuse.
+/// An allocator that passes each call on to another, except the calls for memory that it was told to refuse.
 ///
-/// A growth of a block, or its shrinking, counts as one call for memory, and, where a new block is given, as the return of the one that it
-/// was. Threads may share it where they may share the other one.
+/// A growth of a block, or its shrinking, counts as one call for memory, and, where a new block is given, as the return of the old one. Threads may
+/// share it where they may share the other one.
 #[derive(Debug)]
 pub struct Refusing<A: Allocator> {
     inner: A,
@@ -54,8 +54,8 @@ impl<A: Allocator> Refusing<A> {
         self.account.refused.store(0, Ordering::SeqCst);
     }
 
-    /// What was asked for since `refuse` was last called, and what is given out. Its counts are of one time where no other thread asks for
-    /// memory or gives some back meanwhile.
+    /// What was asked for since `refuse` was last called, and what is given out. Its counts are of one moment where no other thread asks for memory
+    /// or gives some back meanwhile.
     pub fn tally(&self) -> Tally {
         Tally {
             calls: self.account.calls.load(Ordering::SeqCst),

@@ -12,7 +12,7 @@ few_are_fewer a b len few many = grind (arith, nat_tests)
 few_are_two : (a len : ℕ) → are_few a len ≡ true → a ≤ 2
 few_are_two a len few = grind (arith, nat_tests)
 
--- none of the first names is near, or this one is the nearest, by so many edits
+-- none of the first names is near, or this one is the nearest, by this many edits
 abbrev pub SoFar : List ℕ → List (List ℕ) → ℕ → ℕ → Option (List ℕ) → Type 0
 SoFar text names n least None = (18446744073709551615 ≤ least) × ((k : ℕ) → k < n → are_few (edits_at text names k) (length text) ≡ false)
 SoFar text names n least (Some name) =
@@ -55,7 +55,7 @@ nearer text names n least (Some other) name (place, there, fewest, so_many) is l
 
 pub not_nearer : (text : List ℕ) (names : List (List ℕ)) (n least : ℕ) (found : Option (List ℕ)) → SoFar text names n least found
     → (are_few (edits_at text names n) (length text) ≡ true → least ≤ edits_at text names n) → SoFar text names (n + 1) least found
-not_nearer text names n least found so_far more = go (are_few (edits_at text names n) (length text)) refl found so_far
+not_nearer text names n least found so_far more = by_nearest (are_few (edits_at text names n) (length text)) refl found so_far
   where
     none_here : (b : Bool) → are_few (edits_at text names n) (length text) ≡ b → 18446744073709551615 ≤ least → are_few (edits_at text names n) (length text) ≡ false
     none_here true few large = absurd (omega (arith, more few, few_are_two _ (length text) few))
@@ -66,10 +66,10 @@ not_nearer text names n least found so_far more = go (are_few (edits_at text nam
     no_fewer true few place fewest so_many = omega (arith, more few, so_many)
     no_fewer false many place fewest so_many = omega (arith, few_are_fewer _ _ (length text) fewest.few many)
 
-    go : (b : Bool) → are_few (edits_at text names n) (length text) ≡ b → (found : Option (List ℕ)) → SoFar text names n least found → SoFar text names (n + 1) least found
-    go b is None (large, none) =
+    by_nearest : (b : Bool) → are_few (edits_at text names n) (length text) ≡ b → (found : Option (List ℕ)) → SoFar text names n least found → SoFar text names (n + 1) least found
+    by_nearest b is None (large, none) =
         (large, λ k below. elim (below_or_at k n below) [ inl before ↦ none k before | inr at ↦ subst (λ (m : ℕ). are_few (edits_at text names m) (length text) ≡ false) (sym at) (none_here b is large) ])
-    go b is (Some other) (place, there, fewest, so_many) = (
+    by_nearest b is (Some other) (place, there, fewest, so_many) = (
       place,
       there,
       record {

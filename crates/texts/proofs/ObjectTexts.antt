@@ -18,7 +18,7 @@ use Rattle.texts.specs.Objects.{PutsObject, Sends, events_of, items_events, item
 pub sends_one : (e : Event) {old new : Log} → Logs old new e → Sends (e ∷ []) old new
 sends_one e {old} {new} one = record { behind = λ sent kept. subst (λ (log : Log). Logs log new e) kept one }
 
--- events behind events
+-- events after events
 pub sends_both : {first second : List Event} {old mid new : Log} → Sends first old mid → Sends second mid new → Sends (first ++ second) old new
 sends_both {first} {second} one two =
     record { behind = λ sent kept. two.behind (sent ++ first) (one.behind sent kept) ∙ ap Some (append_assoc sent first second) }
@@ -27,7 +27,7 @@ sends_both {first} {second} one two =
 pub sends_none : {log : Log} → Sends [] log log
 sends_none = record { behind = λ sent kept. kept ∙ ap Some (sym (append-nil sent)) }
 
--- one event behind events
+-- one event after events
 pub sends_last : {first : List Event} (e : Event) {old mid new : Log} → Sends first old mid → Logs mid new e → Sends (first ++ e ∷ []) old new
 sends_last e first one = sends_both first (sends_one e one)
 

@@ -15,11 +15,11 @@ use Rattle.texts.specs.ReplyObjects.{PutsReply, SendsNamed, answer_members, deta
 use Rattle.machine_model.specs.declared.words.Refusal.TheVariants as refusal
 use Rattle.step_core.specs.declared.step.Reply.TheVariants as reply
 
--- events, and behind them some with a name
+-- events, and after them some with a name
 pub named_both : {first : List Event} {events : Option (List ℕ) → List Event} {old mid new : Log} → Sends first old mid → SendsNamed events mid new → SendsNamed (λ name. first ++ events name) old new
 named_both one two = record { name = two.name; sent = sends_both one two.sent }
 
--- events behind some with a name
+-- events after some with a name
 pub named_then : {events : Option (List ℕ) → List Event} {last : List Event} {old mid new : Log} → SendsNamed events old mid → Sends last mid new → SendsNamed (λ name. events name ++ last) old new
 named_then one two = record { name = one.name; sent = sends_both one.sent two }
 

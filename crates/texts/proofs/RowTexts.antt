@@ -1,4 +1,4 @@
--- Rows of bytes, one behind the other, are the text of all of them.
+-- Rows of bytes, one after the other, are the text of all of them.
 use Rattle.std.proofs.Common.{arith, ◌≡◌, ◌<◌, ◌+◌, ◌/◌, ◌++◌, ◌∷◌, ◌∙◌, [], ℕ, suc, List, ap, append-nil, append_assoc, codes, drop, length, refl, sym, take}
 use Rattle.texts.specs.Slots.{row_bytes_text, rows_text}
 
@@ -16,7 +16,7 @@ joined a b r n t = append_assoc a _ t ∙ ap (λ (x : List ℕ). a ++ x) (append
 one_more : (k n : ℕ) → k + 16 ≡ n → n / 16 ≡ suc (k / 16)
 one_more k n e = omega arith
 
--- a row more is put
+-- one more row is put
 pub row_put : (said said' rest row behind whole : List ℕ) → said ++ rows_text (length rest / 16) rest ≡ whole → row ≡ take 16 rest → behind ≡ drop 16 rest → length behind + 16 ≡ length rest
     → said' ≡ said ++ (codes "   " ++ (row_bytes_text row ++ (10 ∷ []))) → said' ++ rows_text (length behind / 16) behind ≡ whole
 row_put said said' rest row behind whole same is_row is_behind len is_said =

@@ -1,4 +1,4 @@
--- Bytes that stand there so often, and the bytes of runs, one after the other.
+-- Bytes that come this often, and the bytes of runs, one after the other.
 use Rattle.std.proofs.Common.{arith, ◌≡◌, ◌≤◌, ◌+◌, ◌*◌, ◌^◌, ◌++◌, ◌∷◌, ◌∙◌, ℕ, zero, suc, List, [], Option, Some, None, ap, sym, refl, subst, length, append_assoc, length-append, option_and_then, ◌<◌, add-one, drop, drop-cons, get_or}
 use Rattle.std.proofs.lemmas.List.{append-nil}
 use Rattle.std.specs.Option.{option_map}
@@ -78,7 +78,7 @@ next_run all n run (inside, is) =
 
 -- Counts
 
--- some first runs of all have so many bytes, and these are left
+-- some first runs of all have this many bytes, and these are left
 pub record Counts (all rest : List (List ℕ)) (len : ℕ) : Type 0 where
   pub counted : len_of_runs all ≡ option_map (λ more. len + more) (len_of_runs rest)
 

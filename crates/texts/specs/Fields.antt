@@ -113,13 +113,13 @@ head_text name entry =
     asks_text name entry ++ (codes ", CID " ++ (decimal entry.cid
     ++ (codes ", NSID " ++ (decimal entry.nsid ++ (codes ", MPTR " ++ (digits 16 true entry.mptr ++ (codes "h" ++ (10 ∷ []))))))))
 
--- the first three words behind it
+-- the first three words after it
 unfoldable pub first_words_text : SubEntry → List ℕ
 first_words_text entry =
     codes "    CDW10 " ++ (digits 16 true entry.cdw10 ++ (codes "h, CDW11 " ++ (digits 16 true entry.cdw11
     ++ (codes "h, CDW12 " ++ (digits 16 true entry.cdw12 ++ codes "h")))))
 
--- the words behind it, a line
+-- the words after it, a line
 unfoldable pub words_text : SubEntry → List ℕ
 words_text entry =
     first_words_text entry ++ (codes ", CDW13 " ++ (digits 16 true entry.cdw13 ++ (codes "h, CDW14 " ++ (digits 16 true entry.cdw14
@@ -135,7 +135,7 @@ completion_head_text entry =
     codes "    DW0 " ++ (digits 16 true entry.dw0 ++ (codes "h, SQHD " ++ (decimal entry.sqhd ++ (codes ", SQID " ++ (decimal entry.sqid
     ++ (codes ", CID " ++ (decimal entry.cid ++ (codes ", P " ++ (decimal (from_bool entry.phase) ++ codes ", SF ")))))))))
 
--- a status, behind which a name stands if it has one, and the end of the line
+-- a status, followed by its name if it has one, and the end of the line
 abbrev pub named_text : Status → Option (List ℕ) → List ℕ
 named_text status None = status_text status ++ (10 ∷ [])
 named_text status (Some name) = status_text status ++ (codes " " ++ (name ++ (10 ∷ [])))
@@ -144,7 +144,7 @@ named_text status (Some name) = status_text status ++ (codes " " ++ (name ++ (10
 abbrev pub completion_text : ComEntry → Option (List ℕ) → List ℕ
 completion_text entry name = completion_head_text entry ++ named_text entry.status name
 
--- THE LINE of a completion queue entry is put behind a text. The name of its status is for people: no clause spells it.
+-- THE LINE of a completion queue entry is appended to a text. The name of its status is for people: no clause spells it.
 pub record PutsCompletion (entry : ComEntry) (before after : List ℕ) : Type 0 where
   pub name : Option (List ℕ)
   pub put : after ≡ before ++ completion_text entry name

@@ -4,7 +4,7 @@ use Rattle.script_cli.specs.Verbs.{verb_text}
 use Rattle.script_cli.specs.declared.verb.Verb.{Verb, TheVariants.{CreateCq, Fill, Forge, OnCommand, OnQueue, Owners, Reserve, Reset}}
 use Rattle.texts.specs.declared.faults.forms.Slot.{Slot, TheVariants.{BlockSize, Blocks, Bytes, CompletionSlot, EntryBytes, FirstBlock, Identifier, Kind, Namespace, Queue, Submitter, Vector}}
 
--- the name of a word that is wanted
+-- the name of a required word
 abbrev pub slot_name : Slot → List ℕ
 slot_name Queue = codes "Q"
 slot_name Identifier = codes "CID"
@@ -35,7 +35,7 @@ abbrev pub pieces_follow : Verb → Bool
 pieces_follow Reserve = true
 pieces_follow _ = false
 
--- names, each behind a blank
+-- names, each after a blank
 abbrev pub names_text : List Slot → List ℕ
 names_text [] = []
 names_text (slot ∷ rest) = codes " " ++ (slot_name slot ++ names_text rest)

@@ -41,7 +41,7 @@ about Owners = codes "prints who owns which page"
 about (OnQueue verb) = about_queue verb
 about (OnCommand verb) = about_command verb
 
--- the line of a verb: its form, in 35 places, and what it does
+-- the line of a verb: its form, in 35 columns, and what it does
 abbrev pub verb_line : Verb → List ℕ
 verb_line verb = codes "  " ++ (padded (format_spec 32 1 0 35 (2 ^ 64 - 1)) (form_of verb) ++ (codes "  " ++ (about verb ++ (10 ∷ []))))
 
@@ -57,6 +57,6 @@ unfoldable pub status_lines : List (Status × List ℕ) → List ℕ
 status_lines [] = []
 status_lines (named ∷ rest) = status_line named.0 named.1 ++ status_lines rest
 
--- THE TEXT: a line for each verb, and one for each status that has a name, with what stands before, between and behind them
+-- THE TEXT: a line for each verb, and one for each status that has a name, with what is before, between and after them
 abbrev pub grammar_of : List ℕ
 grammar_of = BEGINNING.now ++ (verb_lines all_verbs ++ (END.now ++ (status_lines (map (λ named. (named.0, named.1.now)) NAMES) ++ LAST.now)))

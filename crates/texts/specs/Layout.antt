@@ -8,7 +8,7 @@ shown b =
     else if b == 9 then 32
     else 63
 
--- from which byte on a line is shown: one of more than 76 bytes from 30 bytes before a place, if so many stand before it
+-- the byte at which a shown line starts: one of more than 76 bytes starts 30 bytes before a position, if that many precede it
 abbrev pub shown_from : List ℕ → ℕ → ℕ
 shown_from line start = if nat_lt 76 (length line) then start - 30 else 0
 
@@ -16,11 +16,11 @@ shown_from line start = if nat_lt 76 (length line) then start - 30 else 0
 abbrev pub dots_if : Bool → List ℕ
 dots_if cut = if cut then codes ".." else []
 
--- what is shown of a line from a byte on: 76 bytes at most
+-- what is shown of a line starting at a byte: 76 bytes at most
 unfoldable pub cut_text : List ℕ → ℕ → List ℕ
 cut_text line from = dots_if (nat_lt 0 from) ++ (map shown (take 76 (drop from line)) ++ dots_if (nat_lt (from + 76) (length line)))
 
--- how many blanks stand before the carets: one for each byte that is shown there, and for each dot
+-- how many blanks come before the carets: one for each byte that is shown there, and for each dot
 abbrev pub blanks : ℕ → ℕ → ℕ
 blanks from start = (start - from) + length (dots_if (nat_lt 0 from))
 

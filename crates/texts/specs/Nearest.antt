@@ -15,15 +15,15 @@ in_lower_case word = map to_ascii_lowercase word
 unfoldable pub edits : List ℕ → List ℕ → ℕ
 edits text name = (osa_table (chars text) (chars name)).last_row (length (chars name))
 
--- how many lead to the name at a place
+-- how many lead to the name at a position
 abbrev pub edits_at : List ℕ → List (List ℕ) → ℕ → ℕ
 edits_at text names place = edits text (slice_index_or names place [])
 
--- so many edits are few for a word of this length
+-- this many edits are few for a word of this length
 abbrev pub are_few : ℕ → ℕ → Bool
 are_few edits len = nat_le edits 2 && nat_le (edits * 3) len
 
--- of the first so many names, the one at a place is reached by few edits, by fewer than any before it, and by no more than any behind it
+-- of this many first names, the one at a position is reached by few edits, by fewer than any before it, and by no more than any after it
 pub record IsFewest (edits_to : ℕ → ℕ) (len : ℕ) (count : ℕ) (place : ℕ) : Type 0 where
   pub inside : place < count
   pub few : are_few (edits_to place) len ≡ true

@@ -45,7 +45,7 @@ abbrev pub items_of : {A : Type 0} → (A → Data) → List A → Items
 items_of value_of [] = no_items
 items_of value_of (x ∷ xs) = item (value_of x) (items_of value_of xs)
 
--- Of a writer that keeps what was sent to it: these events are sent behind those so far.
+-- Of a writer that keeps what was sent to it: these events are sent after those so far.
 pub record Sends (events : List Event) (old new : Log) : Type 0 where
   pub behind : (sent : List Event) → old ≡ Some sent → new ≡ Some (sent ++ events)
 

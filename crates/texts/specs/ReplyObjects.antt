@@ -103,7 +103,7 @@ told_object line verb text name what =
 abbrev pub reply_object : ℕ → Verb → Option (List ℕ) → Reply → Data
 reply_object line verb name what = told_object line verb (text_of what) name what
 
--- The line of a step is put behind a text. The name of its status, which no clause spells, stands where `name` does.
+-- The line of a step is appended to a text. The name of its status, which no clause spells, is where `name` is.
 pub record PutsReply (line : ℕ) (verb : Verb) (what : Reply) (before after : List ℕ) : Type 0 where
   pub name : Option (List ℕ)
   pub put : after ≡ before ++ line_of (reply_object line verb name what)

@@ -1,5 +1,5 @@
--- Which bytes a typed word is: runs with commas between them. A run is hexadecimal digits, two for each byte, and, behind a star, how often
--- these bytes stand there.
+-- Which bytes a typed word is: runs with commas between them. A run is hexadecimal digits, two for each byte, and, after a star, how often
+-- these bytes occur.
 use Rattle.std.specs.{List.slice_split, Option.option_map}
 use Rattle.std.specs.Prelude.{◌≡◌, ◌≤◌, ◌<◌, ◌+◌, ◌*◌, ◌/◌, ◌^◌, ◌==◌, ◌++◌, ℕ, zero, suc, Bool, Option, Some, None, Result, Ok, Err, List, [], ◌∷◌, length, take, drop, position, option_and_then}
 use Rattle.script_cli.specs.Grammar.{Words, ◌>>=◌, hex_word, number_word, words_of}
@@ -23,20 +23,20 @@ value_of (Err fault) = None
 abbrev pub digit_bytes : List ℕ → Option (List ℕ)
 digit_bytes digits = value_of (words_of digits >>= hex_word)
 
--- the number of decimal digits, which are read so too
+-- the number of decimal digits, which are read the same way
 abbrev pub times_said : List ℕ → Option ℕ
 times_said digits = value_of (words_of digits >>= number_word (2 ^ 32))
 
--- bytes, so often
+-- bytes, this often
 unfoldable pub repeated : List ℕ → ℕ → List ℕ
 repeated bytes zero = []
 repeated bytes (suc n) = bytes ++ repeated bytes n
 
--- where the first star of a run stands
+-- where the first star of a run is
 unfoldable pub star_of : List ℕ → Option ℕ
 star_of run = position is_star run
 
--- the digits of a run, by where its star stands, if it has one, and how often their bytes stand there
+-- the digits of a run, by where its star is, if it has one, and how often their bytes occur
 abbrev pub parts_by : List ℕ → Option ℕ → Option (List ℕ × ℕ)
 parts_by run None = Some (run, 1)
 parts_by run (Some star) = option_map (λ times. (take star run, times)) (times_said (drop (star + 1) run))
@@ -66,7 +66,7 @@ abbrev pub then_front : List ℕ → Option (List ℕ) → List ℕ
 then_front more None = []
 then_front more (Some bytes) = bytes ++ more
 
--- the bytes of the runs that stand before the first that is none
+-- the bytes of the runs before the first that is none
 abbrev pub front_of_runs : List (List ℕ) → List ℕ
 front_of_runs [] = []
 front_of_runs (run ∷ rest) = then_front (front_of_runs rest) (run_bytes run)
@@ -76,11 +76,11 @@ front_of_word word = front_of_runs (runs_of word)
 
 -- Counts
 
--- how many bytes the digits of a run are, as often as they stand there
+-- how many bytes the digits of a run are, as often as they occur
 unfoldable pub run_len : List ℕ → Option ℕ
 run_len run = option_map (λ parts. length parts.0 / 2 * parts.1) (run_parts run)
 
--- how many bytes runs are, added up; none where one of them does not say how often its bytes stand there
+-- how many bytes runs are, added up; none where one of them does not say how often its bytes occur
 abbrev pub len_of_runs : List (List ℕ) → Option ℕ
 len_of_runs [] = Some 0
 len_of_runs (run ∷ rest) = option_and_then (λ len. option_map (λ more. len + more) (len_of_runs rest)) (run_len run)
@@ -96,13 +96,13 @@ IsUncounted (Some len) = 2 ^ 64 ≤ len
 
 -- Refusals
 
--- WHY A WORD is no bytes, of so many at most: the runs before the first that is none have too many, or there is such a one, and they have not
+-- WHY A WORD is not bytes, of this many at most: the runs before the first that is none have too many, or there is such a one, and they have not
 abbrev pub IsNoWord : List ℕ → ℕ → RunsFault → Type 0
 IsNoWord word most NoRuns = (bytes_of_word word ≡ None) × (length (front_of_word word) ≤ most)
 IsNoWord word most TooMany = most < length (front_of_word word)
 IsNoWord word most Memory = Unit {0}
 
--- why a run is not put behind so many bytes, of so many at most
+-- why a run is not put after this many bytes, of this many at most
 abbrev pub IsNotPut : Option (List ℕ) → ℕ → ℕ → RunsFault → Type 0
 IsNotPut bytes len most NoRuns = bytes ≡ None
 IsNotPut bytes len most TooMany = (more : List ℕ) × (bytes ≡ Some more) × (most < len + length more)

@@ -1,4 +1,4 @@
--- What is said of an entry in a slot of a queue: the bytes that stand there in the world.
+-- What is said of an entry in a slot of a queue: the bytes that are there in the world.
 use Rattle.std.specs.{Fmt.{decimal, digit_glyph, digits}, List.Contains}
 use Rattle.std.specs.Prelude.{◌≡◌, ◌≢◌, ◌⊎◌, ℕ, zero, suc, ◌+◌, ◌*◌, ◌/◌, ◌%◌, ◌<◌, true, Option, Some, None, List, [], ◌∷◌, ◌++◌, codes, take, drop, length}
 use Rattle.machine_model.specs.{Claims.claims_of, State.State}
@@ -40,7 +40,7 @@ IsMissing world q half slot =
 
 -- How bytes are shown
 
--- a byte, in two hexadecimal digits behind a space
+-- a byte, in two hexadecimal digits after a space
 abbrev pub byte_text : ℕ → List ℕ
 byte_text b = 32 ∷ digit_glyph true (b / 16) ∷ digit_glyph true (b % 16) ∷ []
 
@@ -48,7 +48,7 @@ abbrev pub row_bytes_text : List ℕ → List ℕ
 row_bytes_text [] = []
 row_bytes_text (b ∷ bs) = byte_text b ++ row_bytes_text bs
 
--- so many rows of 16 bytes, each a line
+-- this many rows of 16 bytes, each a line
 unfoldable pub rows_text : ℕ → List ℕ → List ℕ
 rows_text zero bytes = []
 rows_text (suc n) bytes = codes "   " ++ (row_bytes_text (take 16 bytes) ++ ((10 ∷ []) ++ rows_text n (drop 16 bytes)))
@@ -66,7 +66,7 @@ abbrev pub slot_text : Half → ℕ → ℕ → ℕ → List ℕ → List ℕ
 slot_text half q slot addr bytes =
     name_text half ++ (decimal q ++ (codes " slot " ++ (decimal slot ++ (codes ", " ++ (place_text addr ++ ((10 ∷ []) ++ rows_text (length bytes / 16) bytes))))))
 
--- THE TEXT of a slot: where its entry lies, and the bytes that stand there, which are found too; nothing where there is none
+-- THE TEXT of a slot: where its entry lies, and the bytes that are there, which are found too; nothing where there is none
 abbrev pub SaysSlot : State → ℕ → Half → ℕ → Option (List ℕ) → List ℕ → List ℕ → Type 0
 SaysSlot world q half slot None before after = IsMissing world q half slot × (after ≡ before)
 SaysSlot world q half slot (Some bytes) before after = (addr : ℕ) × StandsIn world q half slot addr bytes × (after ≡ before ++ slot_text half q slot addr bytes)

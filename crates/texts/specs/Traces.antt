@@ -1,9 +1,9 @@
--- What of a step its trace tells.
+-- What its trace tells of a step.
 use Rattle.step_core.specs.Values.{Step}
 use Rattle.step_core.specs.declared.step.Step.TheVariants as step
 use Rattle.texts.specs.declared.traces.trace.Traced.{Traced, TheVariants.{Complete, Entry, Fetch, Other, Reap, Ring}}
 
--- the queue whose ring or doorbell a step changes, and how: an administrative command stands in queue 0
+-- the queue whose ring or doorbell a step changes, and how: an administrative command is in queue 0
 abbrev pub traced_of : Step → Traced
 traced_of (step.Submit q cid) = Entry q
 traced_of (step.Ring q) = Ring q

@@ -10,6 +10,6 @@ abbrev pub hex_text : List ℕ → List ℕ
 hex_text [] = []
 hex_text (b ∷ bs) = hex_byte_text b ++ hex_text bs
 
--- a number as hexadecimal digits, behind `0x`
+-- a number as hexadecimal digits, after `0x`
 abbrev pub hex_number_text : ℕ → List ℕ
 hex_number_text n = codes "0x" ++ digits 16 true n

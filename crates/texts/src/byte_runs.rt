@@ -1,6 +1,6 @@
 //! Bytes as people type them: `AB*1,CD*1,00*510`, as a gather prints them, or `ABCD`, or both.
 //!
-//! A word is runs with commas between them. A run is hexadecimal digits, two for each byte, and, behind a star, how often these bytes stand there.
+//! A word is runs with commas between them. A run is hexadecimal digits, two for each byte, and, after a star, how often these bytes occur.
 
 ghost use Rattle.std.specs.Prelude.{◌≡◌, ◌≤◌, ◌+◌, ◌++◌, ◌<◌, ℕ, Some, List, length, IfSome, IfOk, IfErr, MatchOption, MatchResult, OnOk, vec_len};
 ghost use Rattle.texts.specs.Runs.{digit_bytes, times_said, run_parts, run_bytes, star_of, bytes_of_word, len_of_word, run_len as spec_run_len, AreNone, IsNotPut, IsNoWord, IsUncounted};
@@ -9,12 +9,12 @@ ghost use Rattle.texts.specs.declared.byte_runs.RunsFault.{RunsFault};
 use script_cli::{LineError, LineFault, words_of};
 use std::alloc::{AllocError, Global};
 
-/// Why a word is no bytes.
+/// Why a word is not bytes.
 #[derive(Clone, Copy, Debug, PartialEq, Eq)]
 pub enum RunsFault {
     /// It is not made of runs.
     NoRuns,
-    /// It has more bytes than there may be.
+    /// It has more bytes than allowed.
     TooMany,
     /// Memory was refused.
     Memory,
@@ -64,7 +64,7 @@ fn hex(alloc: Global, digits: &[u8]) -> Result<Vec<u8>, RunsFault>
     Ok(words.bytes(alloc)?.into_vec())
 }
 
-/// How often the bytes of a run stand there.
+/// How often the bytes of a run occur.
 fn count(digits: &[u8]) -> Result<u32, RunsFault>
     ensures times { MatchResult result (λ times. times_said digits.now ≡ Some times) (AreNone (times_said digits.now)) }
     ensures none { IfErr result (λ fault. fault ≡ RunsFault.NoRuns) }
@@ -73,7 +73,7 @@ fn count(digits: &[u8]) -> Result<u32, RunsFault>
     Ok(words.number32()?)
 }
 
-/// Where the star of a run stands.
+/// Where the star of a run is.
 #[tactic(auto, unfolding(crate::specs::Runs::star_of))]
 fn star_in(run: &[u8]) -> Option<usize>
     ensures star { result ≡ star_of run.now }
@@ -82,7 +82,7 @@ fn star_in(run: &[u8]) -> Option<usize>
     run.iter().position(|byte| *byte == b'*')
 }
 
-/// The digits of a run, and how often their bytes stand there.
+/// The digits of a run, and how often their bytes occur.
 fn parts_of(run: &[u8]) -> Result<(&[u8], u32), RunsFault>
     ensures parts { MatchResult result (λ parts. run_parts run.now ≡ Some (parts.0.now, parts.1)) (AreNone (run_parts run.now)) }
     ensures none { IfErr result (λ fault. fault ≡ RunsFault.NoRuns) }
@@ -93,7 +93,7 @@ fn parts_of(run: &[u8]) -> Result<(&[u8], u32), RunsFault>
     }
 }
 
-/// Puts the bytes of a run behind others.
+/// Puts the bytes of a run after others.
 fn put_run(alloc: Global, out: &mut Vec<u8>, run: &[u8], most: usize) -> Result<(), RunsFault>
     requires { vec_len out.old ≤ most }
     ensures put { OnOk result ((bytes : List ℕ) × (run_bytes run.now ≡ Some bytes) × (out.new.items ≡ out.old.items ++ bytes)) }
@@ -133,11 +133,11 @@ pub fn len_of(word: &[u8]) -> Option<u64>
     Some(len)
 }
 
-/// The bytes that a word is, of so many at most.
+/// The bytes that a word is, of this many at most.
 ///
 /// # Errors
 ///
-/// Where the word is no bytes, or too many, or memory is refused.
+/// Where the word is not bytes, or too many, or memory is refused.
 pub fn bytes_of(alloc: Global, word: &[u8], most: usize) -> Result<Vec<u8>, RunsFault>
     ensures bytes { IfOk result (λ bytes. bytes_of_word word.now ≡ Some bytes.items) }
     ensures few { IfOk result (λ bytes. vec_len bytes ≤ most) }

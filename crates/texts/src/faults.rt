@@ -1,8 +1,8 @@
 //! What people are told of a fault of a script, and of what a script may say.
 //!
 //! The parser of `script_cli` and `job_cli` answers which line is at fault, and why. [`find`] looks at that line once more and says which of
-//! its words it is and what is wanted there; [`explain`] writes the line, a caret under the word, and a sentence. Words are read by the
-//! parser's own calls, verbs stand in its own table. [`grammar_text`] prints that table, with the form of each verb.
+//! its words it is and what is expected there; [`explain`] writes the line, a caret under the word, and a sentence. Words are read by the
+//! parser's own calls, verbs are in its own table. [`grammar_text`] prints that table, with the form of each verb.
 
 mod finding;
 mod forms;

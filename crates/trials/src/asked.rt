@@ -22,13 +22,6 @@ pub enum Way {
 /// What the command line asks for.
 #[derive(Clone, Copy)]
 pub enum Asked {
-    /// Random steps over worlds.
-    Hostile {
-        /// What chance begins with.
-        seed: u64,
-        /// How many steps.
-        steps: u32,
-    },
     /// Reads of one shape.
     Reads {
         /// How they are carried through.
@@ -87,23 +80,11 @@ fn threads(words: &[String]) -> Option<Asked> {
     })
 }
 
-/// The random steps that two words name.
-fn hostile(words: &[String]) -> Option<Asked> {
-    let [seed, steps] = words else {
-        return None;
-    };
-    Some(Asked::Hostile {
-        seed: seed.as_str().parse().ok()?,
-        steps: number(steps, 0, u32::MAX)?,
-    })
-}
-
 impl Asked {
     /// What the words of the command line ask for, the first of which is the program's name.
     pub fn read(words: &[String]) -> Option<Asked> {
         let (verb, numbers) = words.get(1..)?.split_first()?;
         match verb.as_str() {
-            "hostile" => hostile(numbers),
             "threads" => threads(numbers),
             "alone" => alone(numbers),
             "heap" => Some(Asked::Heap),

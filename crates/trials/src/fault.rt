@@ -7,19 +7,11 @@ use thiserror::Error;
 #[derive(Clone, Copy, Debug, Error)]
 pub enum Fault {
     /// The arguments are at fault.
-    #[error("usage: trials hostile SEED STEPS | threads SUBMITTERS JOBS BLOCKS [DEPTH] | alone SUBMITTERS JOBS BLOCKS TIMES | heap | all")]
+    #[error("usage: trials threads SUBMITTERS JOBS BLOCKS [DEPTH] | alone SUBMITTERS JOBS BLOCKS TIMES | heap | all")]
     Usage,
-    /// A world or a bench was not opened.
-    #[error("a world was not opened")]
+    /// A bench was not opened.
+    #[error("a bench was not opened")]
     NotOpened,
-    /// A world differs from the recount.
-    #[error("step {step}: {what} differs")]
-    Differs {
-        /// The step, from 1.
-        step: u64,
-        /// What differs.
-        what: &'static str,
-    },
     /// A command that is measured was not carried through.
     #[error("a command was not carried through")]
     Refused,

@@ -1,43 +1,23 @@
-//! Trials of the core from outside: random and forged steps beside a recount, Reads whose time is measured, and benches in heaps of fixed
-//! size.
-//!
-//! `trials hostile SEED STEPS` makes so many steps over worlds, with arguments that are mostly sensible and sometimes not. After each step
-//! the world is compared with a recount of its pages that is made of the answers alone; a difference ends the program with exit status 1.
-//! It prints how many steps of each kind were accepted and refused, what reaps found, and a digest of all answers.
+//! Trials whose time or memory is measured: Reads by threads and by one, and benches in heaps of fixed size.
 //!
 //! `trials threads SUBMITTERS JOBS BLOCKS [DEPTH]` and `trials alone SUBMITTERS JOBS BLOCKS TIMES` carry Reads of one shape through, by threads over a
 //! shared book, or one after the other over a book of their own; `bench/threads` measures how long that takes. They print how many commands
 //! were carried through, how many entries the log has and how many bytes were read, and nothing that depends on the schedule.
 //!
 //! `trials heap` prints for a small pool and for a larger one how many bytes of a heap are used by the image, once the bench is open, at
-//! most, and at the end.
+//! most, and at the end. `trials all` does a little of each.
 #![tactic(auto)]
 
-mod admin_steps;
 mod alone;
-mod answer;
 mod asked;
-mod chance;
 mod commands;
-mod compare;
-mod controller_steps;
-mod digest;
 mod fault;
 mod heap;
-mod host_steps;
-mod hostile;
-mod kind;
 mod pools;
 mod printing;
-mod random;
 mod reads;
-mod recount;
-mod rings;
-mod session;
 mod stage;
-mod tally;
 mod threaded;
-mod values;
 
 use alone::read_alone;
 use asked::{Asked, Way};
@@ -45,7 +25,6 @@ use block_image::Image;
 use driver_book::BlankBook;
 use fault::Fault;
 use heap::use_heap;
-use hostile::try_steps;
 use pools::POOLS;
 use printing::print_numbers;
 use reads::{IMAGE_BLOCKS, ROOMY, Shape};
@@ -81,11 +60,9 @@ fn read_words<R: Env + AllocGlobal>(rt: &R) -> Result<Asked, Fault> {
 /// Reads the command line, and does what it asks for.
 fn start<R: Env + AllocGlobal + Print + Threads + Wait + Sync>(rt: &R) -> Result<(), Fault> {
     match read_words(rt)? {
-        Asked::Hostile { seed, steps } => try_steps(rt, seed, steps),
         Asked::Reads { way, shape } => carry_reads(rt, way, shape),
         Asked::Heap => fill_heaps(rt),
         Asked::All => {
-            try_steps(rt, 1, 1_000_000)?;
             let shape = Shape {
                 submitters: 2,
                 jobs: 3,
@@ -118,7 +95,6 @@ fn carry_reads<R: AllocGlobal + Print + Threads + Wait + Sync>(
     };
     print_numbers(
         rt,
-        "",
         &[
             ("commands", done.commands),
             ("entries", done.entries as u64),
@@ -133,7 +109,6 @@ fn fill_heaps<R: AllocGlobal + Print>(rt: &R) -> Result<(), Fault> {
         let used = use_heap(rt.alloc(), pool)?;
         print_numbers(
             rt,
-            "",
             &[
                 ("pages", u64::from(pool.pages)),
                 ("heap", pool.heap as u64),

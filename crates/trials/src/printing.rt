@@ -2,30 +2,21 @@
 
 use crate::fault::Fault;
 
-/// Prints a name, and numbers with their labels before them, in one line.
+/// Prints numbers with their labels before them, in one line.
 ///
 /// # Errors
 ///
 /// `Output` where the line could not be written.
-pub fn print_numbers<R: Print>(
-    rt: &R,
-    name: &str,
-    numbers: &[(&'static str, u64)],
-) -> Result<(), Fault> {
-    match print_line(rt, name, numbers) {
+pub fn print_numbers<R: Print>(rt: &R, numbers: &[(&'static str, u64)]) -> Result<(), Fault> {
+    match print_line(rt, numbers) {
         Ok(()) => Ok(()),
         Err(_) => Err(Fault::Output),
     }
 }
 
 /// Prints them.
-fn print_line<R: Print>(
-    rt: &R,
-    name: &str,
-    numbers: &[(&'static str, u64)],
-) -> std::io::Result<()> {
-    print!(rt; "{name}")?;
-    let mut between = if name.is_empty() { "" } else { " " };
+fn print_line<R: Print>(rt: &R, numbers: &[(&'static str, u64)]) -> std::io::Result<()> {
+    let mut between = "";
     for (label, number) in numbers {
         print!(rt; "{between}{label} {number}")?;
         between = " ";

@@ -106,7 +106,7 @@ decides e view =
         R : Option Status → Type 0
         R o = Q (option_map_or (λ fault. Answer fault 0) o v)
 
--- The size of the rings is looked at where an I/O queue is named.
+-- The size of the rings matters only where an I/O queue is named.
 pub same_decision : (e : SubEntry) (view : DeviceView) (n : ℕ) → (is_io_queue (named_queue e) view ≡ true → view.entries ≡ n) → decision e view ≡ decision e (record view { entries = n })
 same_decision e view n same = grind arith
 
@@ -203,7 +203,7 @@ event cs s e reply ok c holds share =
 
 -- The controller's queues
 
--- a change that leaves where the halves begin, or one of another queue
+-- a change that keeps where the halves begin, or one of another queue
 abbrev LeavesPlaces : (ControllerQueue → ControllerQueue) → Type 0
 LeavesPlaces g = (c : ControllerQueue) → ((g c).controller.sq ≡ c.controller.sq) × ((g c).controller.cq ≡ c.controller.cq)
 
@@ -234,7 +234,7 @@ head_leaves v c =
     cond_both (is_in_range c.controller.entries c.controller.ring.known_head c.controller.ring.tail v) (with_side (record c.controller { ring = hearing_head v c.controller.ring }) c) c (λ x. (x.controller.sq ≡ c.controller.sq) × (x.controller.cq ≡ c.controller.cq))
     (λ e. (refl, refl)) (λ e. (refl, refl))
 
--- what holds of its queues where it heard nothing, and where it heard a tail or a head
+-- what holds of its queues where no doorbell was rung, and where a tail or head doorbell was
 pub heard_by : (P : List ControllerQueue → Type 0) (e : Event) (reply : Reply) (v : HostView) (c : Contents) → ((q tail : ℕ) → P c.queues → P (change q (with_tail tail) c.queues))
     → ((q head : ℕ) → P c.queues → P (change q (with_head head) c.queues)) → P c.queues → P (heard e reply v c).queues
 heard_by P e (events.Refused why touched) v c tails heads h = h
@@ -242,7 +242,7 @@ heard_by P (events.Ring q) events.Accepted v c tails heads h = elim (option_is (
 heard_by P (events.Reap q) (events.Reaps what) v c tails heads h = elim (option_is (head_rung v q what)) [ inl e ↦ rw e h | inr (head, e) ↦ rw e (heads q head h) ]
 heard_by P e reply v c tails heads h = h
 
--- a step of the host, and what the controller has of it
+-- a step of the host, and what the controller sees of it
 pub admin_behind : (s : Sides) (e : Event) (reply : Reply) (host : HostView) (pages : Pages) → IsController e ≡ false → HostStep s.host s.pages e reply host pages → IsSound (alone s.host s.pages)
     → SharesAdmin s.host.entries s.host.host.queues s.controller.queues → SharesAdmin host.entries host.host.queues (heard e reply host s.controller).queues
 admin_behind s e reply host pages c step sound share =
@@ -257,20 +257,20 @@ admin_behind s e reply host pages c step sound share =
 -- What an entry of queue 0 decides, and what the end of a command leaves
 
 pub admin_verdict : (e : SubEntry) (view : DeviceView) (n : ℕ) (hs : List HostQueue) (cs : List ControllerQueue) → SharesAdmin n hs cs → SharesAdmin n hs (queues_after (decision e view) cs)
-admin_verdict e view n hs cs share = go (decision e view) (decides e view)
+admin_verdict e view n hs cs share = by_verdict (decision e view) (decides e view)
   where
-    go : (v : AdminVerdict) → Decides e view v → SharesAdmin n hs (queues_after v cs)
-    go (Answer st dw0) d = share
-    go (AbortJob q cid) d = share
-    go (StopQueue q) d = places_left n q stopping hs cs (λ c. (refl, refl)) share
-    go (DropCompletion q) d = places_left n q without_completion hs cs (λ c. (refl, refl)) share
-    go (MakeCompletion q base) d = places_past n q (with_completion base) hs cs d.other share
-    go (MakeSubmission q base) d = places_past n q (with_submission base) hs cs d.other share
+    by_verdict : (v : AdminVerdict) → Decides e view v → SharesAdmin n hs (queues_after v cs)
+    by_verdict (Answer st dw0) d = share
+    by_verdict (AbortJob q cid) d = share
+    by_verdict (StopQueue q) d = places_left n q stopping hs cs (λ c. (refl, refl)) share
+    by_verdict (DropCompletion q) d = places_left n q without_completion hs cs (λ c. (refl, refl)) share
+    by_verdict (MakeCompletion q base) d = places_past n q (with_completion base) hs cs d.other share
+    by_verdict (MakeSubmission q base) d = places_past n q (with_submission base) hs cs d.other share
 
 pub admin_ended : (n : ℕ) (work : Work) (hs : List HostQueue) (cs : List ControllerQueue) → SharesAdmin n hs cs → SharesAdmin n hs (queues_of_end work cs)
 admin_ended n (Io job) hs cs share = share
-admin_ended n (Admin entry status dw0) hs cs share = go (is_deletion entry status)
+admin_ended n (Admin entry status dw0) hs cs share = by_deletion (is_deletion entry status)
   where
-    go : (b : Bool) → SharesAdmin n hs (if b then change (named_queue entry) without_submission cs else cs)
-    go true = places_left n (named_queue entry) without_submission hs cs (λ c. (refl, refl)) share
-    go false = share
+    by_deletion : (b : Bool) → SharesAdmin n hs (if b then change (named_queue entry) without_submission cs else cs)
+    by_deletion true = places_left n (named_queue entry) without_submission hs cs (λ c. (refl, refl)) share
+    by_deletion false = share

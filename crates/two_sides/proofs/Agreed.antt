@@ -87,7 +87,7 @@ agree_from s roomy = record {
   heads = roomy.heads;
 }
 
--- Behind a reset
+-- After a reset
 
 reset_is_step : (s : State) → Step s events.Reset events.Accepted (a.after_reset s)
 reset_is_step s = let permits : (b : Bool) → MatchBool (b || true) (refusal_of s events.Reset ≡ None × Unit {0}) ⊥ = λ b. grind arith in (tt, permits s.trusted, refl)
@@ -228,17 +228,17 @@ still n k (x ∷ xs) l h =
 -- a list of fewer than n numbers lacks one below n
 pub not_among : (n : ℕ) (xs : List ℕ) → length xs < n → (k : ℕ) × (k < n) × (is_among xs k ≡ false)
 not_among zero xs few = absurd (omega arith)
-not_among (suc n) xs few = go (is_among xs n) refl (not_among n (others n xs))
+not_among (suc n) xs few = by_presence (is_among xs n) refl (not_among n (others n xs))
   where
-    go : (b : Bool) → is_among xs n ≡ b → (length (others n xs) < n → (k : ℕ) × (k < n) × (is_among (others n xs) k ≡ false)) → (k : ℕ) × (k < suc n) × (is_among xs k ≡ false)
-    go false e ih = (n, omega arith, e)
-    go true e ih =
+    by_presence : (b : Bool) → is_among xs n ≡ b → (length (others n xs) < n → (k : ℕ) × (k < n) × (is_among (others n xs) k ≡ false)) → (k : ℕ) × (k < suc n) × (is_among xs k ≡ false)
+    by_presence false e ih = (n, omega arith, e)
+    by_presence true e ih =
         let rest = ih (omega (arith, few, fewer n xs e)) in
         (rest.0, omega (arith, rest.1), still n rest.0 xs rest.1 rest.2)
 
 -- Each event is answered, whatever was forged.
 
--- Want of memory is no cause
+-- Lack of memory is no cause
 
 abbrev is_memory : Refusal → Bool
 is_memory refusal.Memory = true
@@ -276,7 +276,7 @@ IsRefused s e = (why : Refusal) × (touched : List ℕ) × Step s e (events.Refu
 abbrev pub IsDone : State → Event → Reply → Type 0
 IsDone s e reply = (left : State) × Step s e reply left
 
--- want of memory is in no row
+-- lack of memory is in no row
 no_memory : (s : State) (e : Event) → list_all (λ row. not (is_memory row.1)) (causes s e) ≡ true
 no_memory s (events.Reserve q r) = told (fault_of r.kind r.block_size r.blocks r.pieces)
   where
@@ -291,7 +291,7 @@ refused_or_none s e proper j = elim (option_is (refusal_of s e)) [
   | inr (why, h) ↦ inl (why, touched_by_refusal s e why, (proper, judged (MayRefuse e why _) _ j (refuses_cause s e why (rows_tell (causes s e) why (no_memory s e) h) h), refl))
 ]
 
--- a call that allocates can be refused: for a cause, or for want of memory
+-- a call that allocates can be refused: for a cause, or for lack of memory
 pub refusable : (s : State) (e : Event) → IsProper e → IsJudged s e → allocates e ≡ true → IsRefused s e
 refusable s e proper j a = elim (refused_or_none s e proper j) [
   | inl h ↦ h
@@ -307,7 +307,7 @@ left_by s next e (inl host) = elim (cases_Bool (is_exact e s.trusted)) [
   | inr loose ↦ (record next { controller = s.controller }, unjudged _ _ loose (unjudged _ _ host (record { part = refl; memory = refl; controller = record { image = refl; queues = refl } })))
 ]
 
--- a reply that no cause is against
+-- a reply that no cause refuses
 pub done : (s : State) (e : Event) (reply : Reply) → IsProper e → IsJudged s e → IsController e ≡ false ⊎ (is_exact e s.trusted ≡ true) → refusal_of s e ≡ None → Answers s e reply → IsDone s e reply
 -- a refusal is no answer of an accepted event
 done s e (events.Refused why touched) proper j x none answer = absurd (grind arith)
@@ -399,7 +399,7 @@ answers_every_event s (events.Retire q) order proper = plain s (events.Retire q)
 answers_every_event s (events.Forge q slot bytes) order proper = plain s (events.Forge q slot bytes) proper refl tt
 answers_every_event s events.Reset order proper = plain s events.Reset proper refl tt
 
--- A reset can make any world's sides agree: what that takes holds in an opening, and each step keeps it, whatever was forged.
+-- A reset can make any world's sides agree: what that needs holds in an opening, and each step keeps it, whatever was forged.
 
 -- Requests stay checked
 
@@ -449,11 +449,11 @@ checked_event s e reply proper only ok c h =
     good q request none = no_fault (fault_of request.kind request.block_size request.blocks request.pieces) (unrefused s (events.Reserve q request) none).1.1.0
 
     with : (q cid : ℕ) (f : Record → Record) → ((r : Record) → (f r).work ≡ r.work) → AllChecked (with_record q cid f s.host.records)
-    with q cid f same = all_map (λ r. IsChecked r.work) (λ r. IsChecked r.work) (λ r. if is_at q cid r then f r else r) s.host.records (λ r p. go r (is_at q cid r) p) h
+    with q cid f same = all_map (λ r. IsChecked r.work) (λ r. IsChecked r.work) (λ r. if is_at q cid r then f r else r) s.host.records (λ r p. by_match r (is_at q cid r) p) h
       where
-        go : (r : Record) (b : Bool) → IsChecked r.work → IsChecked (if b then f r else r).work
-        go r true p = subst IsChecked (sym (same r)) p
-        go r false p = p
+        by_match : (r : Record) (b : Bool) → IsChecked r.work → IsChecked (if b then f r else r).work
+        by_match r true p = subst IsChecked (sym (same r)) p
+        by_match r false p = p
 
     lose : (r : Record) (b : Bool) → IsChecked r.work → IsChecked (if b then a.aborted r else r).work
     lose r true p = p
@@ -556,7 +556,7 @@ opens_in_order pages queues n s image opens bytes =
       recovers = openings_recover pages queues n s image opens;
     }
 
--- behind a reset both sides agree whatever was forged
+-- after a reset both sides agree whatever was forged
 agree_kept : (old : State) (e : Event) (reply : Reply) (new : State) → IsInOrder old → Step old e reply new → new.trusted ≡ true → SidesAgree new
 agree_kept old events.Reset reply new order step trusted = subst SidesAgree (sym (reset_leaves old reply new step)) (reset_recovers old order.recovers)
 agree_kept old e reply new order step trusted = (step_keeps_agreement old e reply new step trusted).1 (order.agree (trusted_before old e reply new step refl trusted))

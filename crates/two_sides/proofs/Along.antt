@@ -69,7 +69,7 @@ pub record Unforged (s : State) (made : List Made) : Type 0 where
   pub trusted : s.trusted ≡ true
   pub none : list_any is_forgery made ≡ false
 
--- behind the first of them
+-- after the first of them
 pub unforged_next : (m : Made) (made : List Made) (s mid : State) → Step s m.event m.reply mid → Unforged s (m ∷ made) → Unforged mid made
 unforged_next m made s mid step u =
     let both = or_parts (is_forgery m) (list_any is_forgery made) u.none in
@@ -79,7 +79,7 @@ pub unforged_end : (made : List Made) (s end : State) → Steps s made end → U
 unforged_end [] s end steps u = ap (λ (x : State). x.trusted) steps ∙ u.trusted
 unforged_end (m ∷ made) s end (is, mid, step, rest) u = unforged_end made mid end rest (unforged_next m made s mid step u)
 
--- the first of them, and the rest
+-- a prefix of them, and the rest
 pub unforged_front : (xs ys : List Made) (s : State) → Unforged s (xs ++ ys) → Unforged s xs
 unforged_front xs ys s u =
     record { trusted = u.trusted; none = (or_parts (list_any is_forgery xs) (list_any is_forgery ys) (sym (list_any-append is_forgery xs ys) ∙ u.none)).0 }
@@ -186,7 +186,7 @@ run_before Q keeps image first earlier later m end run =
     before_step Q keeps [] earlier later m (opening run.pages run.queues run.entries run.segment image) end run.steps (unforged_run image (earlier ++ m ∷ later) end run)
     (first run.pages run.queues run.entries run.segment run.opens)
 
--- what each step keeps, and an opening has, stands at the end of each trusted run
+-- what each step keeps, and an opening has, holds at the end of each trusted run
 pub along_proper : (Q : State → Type 0)
     → ((s : State) (e : Event) (reply : Reply) → IsProper e → Accepts s e reply → s.trusted ≡ true → Q s → Q (a.after s e reply))
     → ((pages queues n s : ℕ) (image : List ℕ) → Opens pages queues n s → Q (opening pages queues n s image))

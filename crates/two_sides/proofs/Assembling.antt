@@ -95,9 +95,9 @@ refuse_as_machine s e why touched host pages c l step = (
 
 -- What each event has to show, so that it is a step of the machine and leaves both sides tied.
 
--- A controller that hears a doorbell
+-- A controller whose doorbell is rung
 
--- What holds whatever was forged stays behind each step of the host.
+-- What holds whatever was forged still holds after each step of the host.
 pub sides_behind : (s : Sides) (e : Event) (reply : Reply) (host : HostView) (pages : Pages) → AreSides s → machine.IsController e ≡ false
     → HostStep s.host s.pages e reply host pages → IsOver host pages → AreSides (behind s e reply host pages)
 sides_behind s e reply host pages sides c step over =
@@ -147,17 +147,17 @@ exactly_left : (s : Sides) (e : Event) (reply : Reply) (host : HostView) (pages 
 exactly_left s e (events.Refused why touched) host pages t f same = same
 exactly_left s e reply host pages t f same = grind arith
 
--- the same completion stands at the head for the host and for the machine
+-- the same completion is at the head for the host and for the machine
 heads_alike : (o p : Option ComEntry) → told o ≡ told p → option_map heard_of_entry p ≡ option_map heard_of_entry o
 heads_alike o p same = grind arith
 
 pub sees_alike : (s : Sides) (e : Event) → IsWorld s → refusal_of (alone s.host s.pages) e ≡ None → SeesAlike (state_of s) (alone s.host s.pages) e
-sees_alike s (events.Reap q) world none = go (slice_get s.host.host.queues q) refl (grind arith)
+sees_alike s (events.Reap q) world none = by_queue (slice_get s.host.host.queues q) refl (grind arith)
   where
-    go : (o : Option HostQueue) → slice_get s.host.host.queues q ≡ o → option_map_or (λ queue. is_reaped queue.state) (slice_get s.host.host.queues q) false ≡ true
+    by_queue : (o : Option HostQueue) → slice_get s.host.host.queues q ≡ o → option_map_or (λ queue. is_reaped queue.state) (slice_get s.host.host.queues q) false ≡ true
         → option_map heard_of_entry (seen_entry (state_of s) q) ≡ option_map heard_of_entry (seen_entry (alone s.host s.pages) q)
-    go None at has = absurd (true≢false (sym has ∙ ap (λ (o : Option HostQueue). option_map_or (λ queue. is_reaped queue.state) o false) at))
-    go (Some h) at has =
+    by_queue None at has = absurd (true≢false (sym has ∙ ap (λ (o : Option HostQueue). option_map_or (λ queue. is_reaped queue.state) o false) at))
+    by_queue (Some h) at has =
         heads_alike (seen_entry (alone s.host s.pages) q) (seen_entry (state_of s) q)
         (seen_alike s world q h at (sym (ap (λ (o : Option HostQueue). option_map_or (λ queue. is_reaped queue.state) o false) at) ∙ has))
 sees_alike s e world none = tt
@@ -197,26 +197,26 @@ entries_kept s e reply host pages c step = accepted_entries s e reply host pages
 pub host_stepped : (s : Sides) (e : Event) (reply : Reply) (host : HostView) (pages : Pages) → IsWorld s → machine.IsController e ≡ false → forges e ≡ false
     → HostStep s.host s.pages e reply host pages → IsOver host pages → (s.trusted ≡ true → Ties s e reply host pages) → StepsTo s e reply (behind s e reply host pages)
 host_stepped s e reply host pages world c f step over ties = (
-  go s.trusted refl,
+  by_trust s.trusted refl,
   record {
     sides = sides_behind s e reply host pages world.sides c step over;
-    recovers = recovery_kept (state_of s) e reply (state_of (behind s e reply host pages)) (go s.trusted refl) (λ t. (tied_of s world t).agree) world.recovers;
+    recovers = recovery_kept (state_of s) e reply (state_of (behind s e reply host pages)) (by_trust s.trusted refl) (λ t. (tied_of s world t).agree) world.recovers;
     tied = OnTrue_from s.trusted _ (λ t.
         let tie = ties t in
         record {
           queues = subst (λ (n : ℕ). AllQueuesStand n (byte_at pages) zero host.host.queues (heard e reply host s.controller).queues) (sym (entries_kept s e reply host pages c step)) tie.queues;
           walks = subst (λ (k : List FetchedCommand). WalksStand (memory_of pages) k) (sym (commands-heard e reply host s.controller)) tie.walks;
-          agree = (step_keeps_agreement (state_of s) e reply (state_of (behind s e reply host pages)) (go s.trusted refl) t).1 (tied_of s world t).agree;
-          serve = step_keeps_serving (state_of s) e reply (state_of (behind s e reply host pages)) (go s.trusted refl) t t (tied_of s world t).agree (tied_of s world t).serve;
+          agree = (step_keeps_agreement (state_of s) e reply (state_of (behind s e reply host pages)) (by_trust s.trusted refl) t).1 (tied_of s world t).agree;
+          serve = step_keeps_serving (state_of s) e reply (state_of (behind s e reply host pages)) (by_trust s.trusted refl) t t (tied_of s world t).agree (tied_of s world t).serve;
         });
   },
 )
   where
-    go : (b : Bool) → s.trusted ≡ b → Step (state_of s) e reply (state_of (behind s e reply host pages))
-    go false t = forged_step s e reply host pages t c step world.sides.queues
-    go true t = let tie = ties t in (step.0, tie.permits, exactly_left s e reply host pages t f (left_due s e reply host pages world c f step tie.controller))
+    by_trust : (b : Bool) → s.trusted ≡ b → Step (state_of s) e reply (state_of (behind s e reply host pages))
+    by_trust false t = forged_step s e reply host pages t c step world.sides.queues
+    by_trust true t = let tie = ties t in (step.0, tie.permits, exactly_left s e reply host pages t f (left_due s e reply host pages world c f step tie.controller))
 
--- What holds whatever was forged stays behind each call of the controller, which takes no page out and brings none in.
+-- What holds whatever was forged still holds after each call of the controller, which takes no page out and brings none in.
 pub record ServesOver (s : Sides) (c : Contents) (pages : Pages) : Type 0 where
   pub leaves : LeavesPages s.pages pages
   pub in_store : map is_some pages ≡ map is_some s.pages
@@ -299,19 +299,19 @@ served_stepped s e reply c pages world is_controller serves accepted permits exa
       };
     }
 
-    go : (b f k : Bool) → s.trusted ≡ b → machine.IsController e ≡ k → forges e ≡ f
+    leaves_as_due : (b f k : Bool) → s.trusted ≡ b → machine.IsController e ≡ k → forges e ≡ f
         → MatchBool (not f && b) (new ≡ after (state_of s) e reply) (MatchBool k (LeavesByController (state_of s) (after (state_of s) e reply) new) (LeavesByHost (state_of s) (after (state_of s) e reply) new))
-    go b f false t k' f' = absurd (true≢false (sym is_controller ∙ k'))
-    go b true true t k' f' = open_left
-    go true false true t k' f' = (exact t).0
-    go false false true t k' f' = open_left
+    leaves_as_due b f false t k' f' = absurd (true≢false (sym is_controller ∙ k'))
+    leaves_as_due b true true t k' f' = open_left
+    leaves_as_due true false true t k' f' = (exact t).0
+    leaves_as_due false false true t k' f' = open_left
 
     step : Step (state_of s) e reply new
-    step = (proper_serve e is_controller, permits, subst (λ (X : Type 0). X) (sym (accepted new)) (go s.trusted (forges e) (machine.IsController e) refl refl refl))
+    step = (proper_serve e is_controller, permits, subst (λ (X : Type 0). X) (sym (accepted new)) (leaves_as_due s.trusted (forges e) (machine.IsController e) refl refl refl))
 
--- The host's calls that move the pages of commands alone, where nothing was forged, and its rings of a tail: no queue of the host changes.
+-- The host's calls that move the pages of commands alone, where nothing was forged, and its writes of a tail doorbell: no queue of the host changes.
 
--- The walks stand behind each accepted call.
+-- The walks stand after each accepted call.
 pub walks_behind : (s : Sides) (e : Event) (reply : Reply) (host : HostView) (pages : Pages) → IsWorld s → s.trusted ≡ true → IsController e ≡ false → forges e ≡ false
     → HostStep s.host s.pages e reply host pages → Accepts (alone s.host s.pages) e reply → Accepts (state_of s) e reply → WalksStand (memory_of pages) s.controller.commands
 walks_behind s e reply host pages world t c f step ok seen =
@@ -346,10 +346,10 @@ Apart s numbers = (q : ℕ) (h : HostQueue) (p : ℕ) → slice_get s.host.host.
 
 spares_from : (s : Sides) (pages : Pages) (numbers : List ℕ) → Apart s numbers → ((p : ℕ) → is_among numbers p ≡ false → page_at pages p ≡ page_at s.pages p) → Spares s pages
 spares_from s pages numbers apart same q h e =
-    let go : (p : ℕ) (b : Bool) → is_among numbers p ≡ b → (is_among numbers p ≡ true → ⊥) → page_at pages p ≡ page_at s.pages p = λ p b x far. grind arith in
+    let page_stays : (p : ℕ) (b : Bool) → is_among numbers p ≡ b → (is_among numbers p ≡ true → ⊥) → page_at pages p ≡ page_at s.pages p = λ p b x far. grind arith in
     record {
-      submission = λ p own. go p (is_among numbers p) refl (λ x. true≢false (sym own ∙ (apart q h p e x).0));
-      completion = λ p own. go p (is_among numbers p) refl (λ x. true≢false (sym own ∙ (apart q h p e x).1));
+      submission = λ p own. page_stays p (is_among numbers p) refl (λ x. true≢false (sym own ∙ (apart q h p e x).0));
+      completion = λ p own. page_stays p (is_among numbers p) refl (λ x. true≢false (sym own ∙ (apart q h p e x).1));
     }
 
 -- a command's pages
@@ -367,12 +367,12 @@ reserve_ties s q request d host pages world t step =
     (spares_from s _ out (λ k h p at among. free_apart_from_queues s world k h p at (granted p out (step.1.1.free p) among)) (without_elsewhere out s.pages))
   where
     granted : (p : ℕ) (out : List ℕ) → times p out ≡ (if is_among out p && is_among s.host.host.free p then 1 else 0) → is_among out p ≡ true → is_among s.host.host.free p ≡ true
-    granted p out is among = go (is_among out p) (is_among s.host.host.free p) is
+    granted p out is among = by_presence (is_among out p) (is_among s.host.host.free p) is
       where
-        go : (a b : Bool) → times p out ≡ (if a && b then 1 else 0) → b ≡ true
-        go a true count = refl
-        go true false count = absurd (omega (arith, count, held_once p out among))
-        go false false count = absurd (omega (arith, count, held_once p out among))
+        by_presence : (a b : Bool) → times p out ≡ (if a && b then 1 else 0) → b ≡ true
+        by_presence a true count = refl
+        by_presence true false count = absurd (omega (arith, count, held_once p out among))
+        by_presence false false count = absurd (omega (arith, count, held_once p out among))
 
 pub cancel_ties : (s : Sides) (d : DraftContents) (host : HostView) (pages : Pages) → IsWorld s → s.trusted ≡ true
     → HostStep s.host s.pages (events.Cancel d) events.Accepted host pages → Ties s (events.Cancel d) events.Accepted host pages
@@ -400,7 +400,7 @@ collect_ties s q cid f host pages world t step =
     (subst (λ (x : State). Spares s x.memory) (sym (collects (alone s.host s.pages) its.0 its.1))
     (spares_from s _ (pages_of its.0) (command_apart s world q cid its.0 _ its.1 refl) (without_elsewhere (pages_of its.0) s.pages)))
 
--- The controller hears a tail.
+-- The controller's tail doorbell is rung.
 
 abbrev with_rung : ServedQueue → ServedQueue
 with_rung at = record at { rung = length at.unfetched }

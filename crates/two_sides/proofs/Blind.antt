@@ -1,4 +1,4 @@
--- What the host's events leave at the host does not hang on the controller's part.
+-- What the host's events leave at the host does not depend on the controller's part.
 use Rattle.std.proofs.Common.{◌≡◌, ℕ, Bool, true, false, not, ◌&&◌, ◌||◌, Option, Some, None, List, [], ◌∷◌, ◌++◌, map, MatchBool, if◌then◌else◌, refl, ap, sym, ◌∙◌, subst, arith, zero}
 use Rattle.std.{proofs.lemmas.Bool.true≢false, specs.Option.{option_map_or, option_map}}
 use Rattle.entry_codec.specs.{Status.is_success, Submission.submission_bytes, declared.{completion.ComEntry.ComEntry, status.Status.Status, submission.SubEntry.SubEntry}}
@@ -19,7 +19,7 @@ use Rattle.machine_model.specs.Events as events
 use Rattle.machine_model.specs.declared.words.Refusal.TheVariants as refusal
 use Rattle.machine_model.specs.declared.words.Reaped.TheVariants as reaped
 
--- What an event of the host leaves at the host is told by the host's part and the memory, where the same stands at the head of the completion ring that is reaped.
+-- What an event of the host leaves at the host is told by the host's part and the memory, where the same is at the head of the completion ring that is reaped.
 
 -- a state with any part of the controller's, trusted or not
 abbrev over : State → Controller → Bool → State
@@ -87,7 +87,7 @@ alike-work : (w : Work) (q cid : ℕ) (st : Status) (hints : Hints) (s : State) 
 alike-work (Io r) q cid st hints s d d' b b' = refl
 alike-work (Management adm) q cid st hints s d d' b b' = alike-admin adm st (a.on_records (without_record q cid) s) d d' b b'
 
--- what a reap tells the host beside its reply
+-- what a reap tells the host besides its reply
 pub record Heard : Type 0 where
   pub head : ℕ
   pub hints : Hints
@@ -98,7 +98,7 @@ heard_of_entry e = record { head = e.sqhd; hints = e.hints }
 abbrev ends : Work → (q cid : ℕ) → Status → Heard → State → State
 ends w q cid st heard s = a.after_work w q cid st heard.hints (a.on_ring q (knowing heard.head) (a.consumed q s))
 
--- of the completion that is reaped only that tells
+-- of the completion that is reaped only that matters
 alike-heard : (w : Work) (q cid : ℕ) (st : Status) (s : State) (d d' : Controller) (b b' : Bool) (o o' : Option ComEntry) → option_map heard_of_entry o ≡ option_map heard_of_entry o'
     → Alike b (option_map_or (λ e. a.after_work w q cid st e.hints (a.heard q e (over s d b))) o (over s d b)) (option_map_or (λ e. a.after_work w q cid st e.hints (a.heard q e (over s d' b'))) o' (over s d' b'))
 alike-heard w q cid st s d d' b b' None None same = refl
@@ -127,7 +127,7 @@ alike-sent : (adm : AdminKind) (id : ℕ) (entry : SubEntry) (s : State) (d d' :
 alike-sent adm id entry s d d' b b' =
     alike-posted 0 entry (a.on_records (λ records. records ++ record { q = 0; cid = id; phase = Submitted; work = Management adm; data_pages = []; chain_pages = []; status = None; hints = NONE } ∷ []) s) d d' b b'
 
--- the same stands at the head of the ring that an event reaps
+-- the same is at the head of the ring that an event reaps
 abbrev pub SeesAlike : State → State → Event → Type 0
 SeesAlike t u (events.Reap q) = option_map heard_of_entry (seen_entry t q) ≡ option_map heard_of_entry (seen_entry u q)
 SeesAlike t u e = Unit {0}
@@ -171,13 +171,13 @@ alike_after s d d' b b' (events.Walk q cid) reply c f z sees ok = absurd (true�
 alike_after s d d' b b' (events.Complete q cid) reply c f z sees ok = absurd (true≢false c)
 alike_after s d d' b b' e reply c f z sees ok = absurd ok
 
--- So a state is known behind an event by what the host alone leaves, and by the controller's part.
+-- So a state is known after an event by what the host alone leaves, and by the controller's part.
 pub left_alike : (s : State) (e : Event) (reply : Reply) → IsController e ≡ false → forges e ≡ false → resets e ≡ false → SeesAlike s (bare s) e → Answers (bare s) e reply
     → a.after s e reply ≡ record (a.after (bare s) e reply) { controller = (a.after s e reply).controller; trusted = s.trusted }
 left_alike s e reply c f z sees ok =
     ap (λ (x : Seen). record x.0 { controller = (a.after s e reply).controller; trusted = x.1 }) (alike_after s s.controller nothing s.trusted false e reply c f z sees ok)
 
--- Once something was forged, nothing of the controller's part tells on the host's events.
+-- Once something was forged, nothing in the controller's part affects the host's events.
 
 abbrev left_of : State → HostPart × Pages
 left_of s = (host_part s, s.memory)

@@ -37,7 +37,7 @@ use Rattle.two_sides.proofs.Untouched.{sent_page, owned_once, bytes_elsewhere, p
 use Rattle.controller_walk.specs.Units.{Act, Stays, Reads, Moves, Course, Closes, Does, units}
 use Rattle.page_memory.proofs.Lists.{found_is, all-back, all-found, all-filter}
 
--- What of the controller's part and of memory each command's list hangs on, and how records change.
+-- What of the controller's part and of memory each command's list depends on, and how records change.
 
 -- Where the controller has an entry
 
@@ -67,7 +67,7 @@ keeps_filter qs js keep q cid entry h = record { unfetched = h.unfetched; fetche
 pub keeps_both : (qs qs' qs'' : List ServedQueue) (js js' js'' : List Job) → Keeps qs js qs' js' → Keeps qs' js' qs'' js'' → Keeps qs js qs'' js''
 keeps_both qs qs' qs'' js js' js'' f g q cid entry h = g q cid entry (f q cid entry h)
 
--- a job comes of the entry in hand
+-- a job comes from the entry in hand
 pub in_hand_is : (s : State) (q : ℕ) (e : SubEntry) → InHand s q e → (cid : ℕ) (entry : SubEntry) → HasEntry s.controller.queues s.controller.jobs q cid entry → e.cid ≡ cid → e ≡ entry
 in_hand_is s q e hand cid entry h same =
     let first : AllByRecursion (λ e. e.cid ≡ cid → e ≡ entry) hand.queue.unfetched =
@@ -166,7 +166,7 @@ commands_still X m m' qs qs' js js' rs same keeps fit h =
     of r within x (Io request) f c = (c.0, λ sub. list_still m m' qs qs' js js' r request (same r within sub) (keeps r x f sub) (c.1 sub))
     of r within x (Management adm) f c = tt
 
--- a command that is submitted no more
+-- a command that is no longer submitted
 pub quiet_stands : (m : Pages) (qs : List ServedQueue) (js : List Job) (f : Record → Record) → ((r : Record) → (f r).work ≡ r.work) → ((r : Record) → (f r).data_pages ≡ r.data_pages)
     → (r : Record) → is_submitted (f r).phase ≡ false → CommandStands m qs js r → CommandStands m qs js (f r)
 quiet_stands m qs js f work pages r far c = subst (StandsAs m qs js (f r)) (sym (work r)) (of r.work c)
@@ -234,7 +234,7 @@ no_job q c P (j ∷ js) none =
     omega (arith, n, mine) in
     ((λ eq ec. absurd (some eq ec none)), no_job q c P js (omega (arith, none)))
 
--- the pages of a draft that is submitted stand in the store
+-- the pages of a draft that is submitted are in the store
 pub submitted_pages : (s : State) (d : DraftContents) (entry : SubEntry) (r : Record) → IsOf s is_drafted d.request d.q d.cid d.data_pages d.chain_pages r → in_state is_live s d.q ≡ true → Grounds s
     → AllByRecursion (λ (page : ℕ × List ℕ). page_at (posts d.q entry (a.on_records (with_record d.q d.cid a.submitted) (a.on_memory (with_pages (d.data_pages ++ d.chain_pages)) s))).memory page.0 ≡ Some page.1) (d.data_pages ++ d.chain_pages)
 submitted_pages s d entry r its live g =
@@ -315,7 +315,7 @@ commands_submit d entry r s proper e its live g few places same h =
       fetched = (no_job d.q d.cid (λ j. j.entry ≡ draft_entry d) s.controller.jobs (omega (arith, places d.q (λ n. one (n == d.cid)), unsent)));
     }
 
-    -- the chain pages stand in the store
+    -- the chain pages are in the store
     stand_there : (entry : SubEntry) → AllByRecursion (λ (page : ℕ × List ℕ). page_at (after_entry entry).memory page.0 ≡ Some page.1) d.chain_pages
     stand_there entry = all-back (λ (page : ℕ × List ℕ). page_at (after_entry entry).memory page.0 ≡ Some page.1) d.data_pages d.chain_pages (submitted_pages s d entry r its live g)
 

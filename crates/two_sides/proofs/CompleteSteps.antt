@@ -42,22 +42,22 @@ end_fits blocks q done image work fits = grind arith
 
 -- The queues
 
--- the machine's queues behind the end of a command
+-- the machine's queues after the end of a command
 abbrev pub controllers_of_end : Work → List ServedQueue → List ServedQueue
 controllers_of_end (Io job) queues = queues
 controllers_of_end (Admin entry status dw0) queues = if is_deletion entry status then change (named_queue entry) cleared queues else queues
 
 pub controllers_ended : (m : Memory) (work : Work) (hs : List HostQueue) (cs : List ControllerQueue) → served_queues_of m hs (queues_of_end work cs) ≡ controllers_of_end work (served_queues_of m hs cs)
 controllers_ended m (Io job) hs cs = refl
-controllers_ended m (Admin entry status dw0) hs cs = go (is_deletion entry status)
+controllers_ended m (Admin entry status dw0) hs cs = by_deletion (is_deletion entry status)
   where
-    go : (b : Bool) → served_queues_of m hs (if b then change (named_queue entry) without_submission cs else cs) ≡ (if b then change (named_queue entry) cleared (served_queues_of m hs cs) else served_queues_of m hs cs)
-    go true = controllers_changed m m (named_queue entry) without_submission cleared hs cs (λ h c e f. refl) (λ i h c other e f. refl)
-    go false = refl
+    by_deletion : (b : Bool) → served_queues_of m hs (if b then change (named_queue entry) without_submission cs else cs) ≡ (if b then change (named_queue entry) cleared (served_queues_of m hs cs) else served_queues_of m hs cs)
+    by_deletion true = controllers_changed m m (named_queue entry) without_submission cleared hs cs (λ h c e f. refl) (λ i h c other e f. refl)
+    by_deletion false = refl
 
 pub stands_ended : (n : ℕ) (m : Memory) (work : Work) (hs : List HostQueue) (cs : List ControllerQueue) → AllQueuesStand n m zero hs cs → AllQueuesStand n m zero hs (queues_of_end work cs)
 stands_ended n m (Io job) hs cs all = all
-stands_ended n m (Admin entry status dw0) hs cs all = go (is_deletion entry status)
+stands_ended n m (Admin entry status dw0) hs cs all = by_deletion (is_deletion entry status)
   where
     without : (q : ℕ) (h : HostQueue) (c : ControllerQueue) → QueueStands n m q h c → QueueStands n m q h (without_submission c)
     without q h c stands =
@@ -68,20 +68,20 @@ stands_ended n m (Admin entry status dw0) hs cs all = go (is_deletion entry stat
           granted = stands.granted;
         }
 
-    go : (b : Bool) → AllQueuesStand n m zero hs (if b then change (named_queue entry) without_submission cs else cs)
-    go true = stands_changed n m m (named_queue entry) without_submission hs cs (λ h c e f stands. without (named_queue entry) h c stands) (λ i h c other e f stands. stands) all
-    go false = all
+    by_deletion : (b : Bool) → AllQueuesStand n m zero hs (if b then change (named_queue entry) without_submission cs else cs)
+    by_deletion true = stands_changed n m m (named_queue entry) without_submission hs cs (λ h c e f stands. without (named_queue entry) h c stands) (λ i h c other e f stands. stands) all
+    by_deletion false = all
 
 pub share_ended : (n : ℕ) (work : Work) (hs : List HostQueue) (cs : List ControllerQueue) → ShareQueues n zero hs cs → ShareQueues n zero hs (queues_of_end work cs)
 share_ended n (Io job) hs cs share = share
-share_ended n (Admin entry status dw0) hs cs share = go (is_deletion entry status)
+share_ended n (Admin entry status dw0) hs cs share = by_deletion (is_deletion entry status)
   where
     one : (i : ℕ) (h : HostQueue) (c : ControllerQueue) → ShareQueue n i h c → ShareQueue n i h (without_submission c)
     one i h c s = record { number = s.number; entries = s.entries; side = s.side }
 
-    go : (b : Bool) → ShareQueues n zero hs (if b then change (named_queue entry) without_submission cs else cs)
-    go true = belled n zero (named_queue entry) without_submission hs cs one share
-    go false = share
+    by_deletion : (b : Bool) → ShareQueues n zero hs (if b then change (named_queue entry) without_submission cs else cs)
+    by_deletion true = belled n zero (named_queue entry) without_submission hs cs one share
+    by_deletion false = share
 
 -- A command's own queue isn't the one that it deletes.
 pub controllers_end_elsewhere : (blocks q done : ℕ) (work : Work) (queues : List ServedQueue) → FitsWork blocks q done work → slice_get (controllers_of_end work queues) q ≡ slice_get queues q
@@ -91,15 +91,15 @@ controllers_end_elsewhere blocks q done (Admin entry status dw0) queues fits = e
   | inr e ↦ rw e refl
 ]
 
--- Another change of a queue bears it.
+-- Another change of a queue commutes with it.
 pub controllers_end_behind : (work : Work) (q : ℕ) (f : ServedQueue → ServedQueue) (queues : List ServedQueue) → ((at : ServedQueue) → cleared (f at) ≡ f (cleared at))
     → controllers_of_end work (change q f queues) ≡ change q f (controllers_of_end work queues)
 controllers_end_behind (Io job) q f queues bears = refl
-controllers_end_behind (Admin entry status dw0) q f queues bears = go (is_deletion entry status)
+controllers_end_behind (Admin entry status dw0) q f queues bears = by_deletion (is_deletion entry status)
   where
-    go : (b : Bool) → (if b then change (named_queue entry) cleared (change q f queues) else change q f queues) ≡ change q f (if b then change (named_queue entry) cleared queues else queues)
-    go true = change-change (named_queue entry) q cleared f bears queues
-    go false = refl
+    by_deletion : (b : Bool) → (if b then change (named_queue entry) cleared (change q f queues) else change q f queues) ≡ change q f (if b then change (named_queue entry) cleared queues else queues)
+    by_deletion true = change-change (named_queue entry) q cleared f bears queues
+    by_deletion false = refl
 
 -- At the machine
 
@@ -116,7 +116,7 @@ deletion_seen s image k blocks fits = grind arith
 pub jobs-without : (q cid : ℕ) (commands : List FetchedCommand) → map job_of (without_command q cid commands) ≡ filter (λ j. not (is_job q cid j)) (map job_of commands)
 jobs-without q cid commands = sym (filter-map job_of (λ (j : Job). not (is_job q cid j)) commands)
 
--- the machine's state behind the end of a command, before its completion is posted
+-- the machine's state after the end of a command, before its completion is posted
 pub ended : (s : Sides) (q cid : ℕ) (k : FetchedCommand) (blocks : ℕ) → FitsWork blocks k.q k.units_done k.work
     → with_served (state_of s) s.pages (controllers_of_end k.work (controller_part s).queues) (map job_of (without_command q cid s.controller.commands)) (image_of_end s.controller.image k.work)
     ≡ deletion_done (job_of k) (status_of_end s.controller.image k.work) (on_controller (λ d. record d { image = image_completed (job_of k) d.image }) (without_job q cid (state_of s)))
@@ -160,15 +160,15 @@ same_causes : (none waiting full out : Bool) → out ≡ false
 same_causes none waiting full out e = grind arith
 
 pub complete_refused_alike : completes_refuse_alike
-complete_refused_alike s q cid world t = go (find (is_command q cid) s.controller.commands) refl
+complete_refused_alike s q cid world t = by_command (find (is_command q cid) s.controller.commands) refl
   where
     none_some : {X : Type 0} (o : Option X) → IsSome o → is_none o ≡ false
     none_some o e = grind arith
 
-    go : (o : Option FetchedCommand) → find (is_command q cid) s.controller.commands ≡ o
+    by_command : (o : Option FetchedCommand) → find (is_command q cid) s.controller.commands ≡ o
         → refusal_of (state_of s) (events.Complete q cid) ≡ option_map why_of (option_map_or (command_refusal s.controller (byte_at s.pages) q) o (Some because.NoJob))
-    go None e = rw (job-at s q cid ∙ ap (option_map job_of) e) refl
-    go (Some k) e =
+    by_command None e = rw (job-at s q cid ∙ ap (option_map job_of) e) refl
+    by_command (Some k) e =
         let found = is_found s world q cid k e in
         let h = found.host in
         let c = found.queue in
@@ -310,7 +310,7 @@ module _ (s : Sides) (q cid : ℕ) (c : Contents) (pages : Pages) (touched : Lis
         ∙ ap (controllers_of_end k.work) queues_posted
         ∙ controllers_end_behind k.work q grown (controller_part s).queues (λ at. refl)
 
-    -- the machine's state behind the end of the command, in which its queue is as before
+    -- the machine's state after the end of the command, in which its queue is as before
     abbrev behind_end : State
     behind_end = with_served (state_of s) s.pages (controllers_of_end k.work (controller_part s).queues) (map job_of (without_command q cid s.controller.commands)) (image_of_end s.controller.image k.work)
 

@@ -62,11 +62,11 @@ slot_shown pages cq slot bytes pool there count =
 
 -- what a completion that was not refused tells
 pub post_room : (m : Memory) (controller : ControllerSide) → post_refusal m controller ≡ None → (is_full controller.entries controller.ring.known_head controller.ring.tail ≡ false) × (completion_slot m controller.cq controller.ring.tail ≢ None)
-post_room m controller none = go (is_full controller.entries controller.ring.known_head controller.ring.tail) (completion_slot m controller.cq controller.ring.tail) none
+post_room m controller none = by_room (is_full controller.entries controller.ring.known_head controller.ring.tail) (completion_slot m controller.cq controller.ring.tail) none
   where
-    go : (full : Bool) (slot : Option (List ℕ)) → (if full then Some refusal.Full else if is_none slot then Some refusal.SlotOut else None) ≡ None → (full ≡ false) × (slot ≢ None)
-    go false (Some bytes) e = (refl, λ none. cc)
-    go x slot e = cc
+    by_room : (full : Bool) (slot : Option (List ℕ)) → (if full then Some refusal.Full else if is_none slot then Some refusal.SlotOut else None) ≡ None → (full ≡ false) × (slot ≢ None)
+    by_room false (Some bytes) e = (refl, λ none. cc)
+    by_room x slot e = cc
 
 -- and both sides have the queue
 pub posted_shares : (n i : ℕ) (h : HostQueue) (c : ControllerQueue) → ShareQueue n i h c → ShareQueue n i h (with_posted c)
@@ -99,7 +99,7 @@ pub record CanPostCompletion (s : Sides) (q : ℕ) (h : HostQueue) (c : Controll
 rings_of : (s : Sides) (q : ℕ) (h : HostQueue) (c : ControllerQueue) (e : ComEntry) → CanPostCompletion s q h c e → RingsStand (byte_at s.pages) q h c
 rings_of s q h c e can = can.known.rings (queue_ring s q h c can.known can.there)
 
--- the pages behind it: the slot at the controller's tail has the completion's bytes
+-- the pages after it: the slot at the controller's tail has the completion's bytes
 abbrev pub with_completion : Sides → ControllerQueue → ComEntry → Pages
 with_completion s c e = with_page_bytes s.pages (page_posted c.controller) (slot_offset 16 c.controller.ring.tail) (completion_bytes e)
 
@@ -118,7 +118,7 @@ page_is_in s q h c known has =
     subst (λ (p : ℕ). is_in s.pages p ≡ true) page
     (byte_in_page s.pages (4096 * c.controller.cq + 16 * c.controller.ring.tail) ((known.completion_in has).there (16 * c.controller.ring.tail) (omega (arith, known.placed.share.entries, known.placed.share.side.tail))))
 
--- the memory behind it
+-- the memory after it
 posted_shown : (s : Sides) (q : ℕ) (h : HostQueue) (c : ControllerQueue) (e : ComEntry) → IsWorld s → IsKnown s q h c → has_ring h c ≡ true → byte_at (with_completion s c e) ≡ memory_posted (byte_at s.pages) c.controller e
 posted_shown s q h c e world known has = slot_shown s.pages c.controller.cq c.controller.ring.tail (completion_bytes e) world.sides.over.pool (page_is_in s q h c known has) (length-completion_bytes e)
 
@@ -247,7 +247,7 @@ posted_is u s q cid st dw0 h c shown memory can =
     ∙ posted_as u q cid st dw0 h ring.head ring.tail (page_posted c.controller) ring.phase shown.host (fetch_slot_is u s q h c shown can.known can.there) (post_slot_is u s q h c shown can.known (can.known.fits.half can.there)) (own_page s q h c can.known has)
     (ap (expected_phase h.ring.head ring.tail) (rings_of s q h c e can).expected ∙ sym (told_alike h.ring.head ring.tail ring.phase))
 
--- A completion is taken from a ring, and its head is rung.
+-- A completion is taken from a ring, and its head doorbell is rung.
 
 -- Positions: what is in range from a later position is so from an earlier one, and the other way round
 
@@ -268,7 +268,7 @@ pub record Sees (s : Sides) (q : ℕ) (h : HostQueue) (c : ControllerQueue) : Ty
   pub apart : h.ring.head ≢ c.controller.ring.tail
   pub completion : HasCompletion (byte_at s.pages) h c
 
--- the entries behind that completion
+-- the entries after that completion
 abbrev pub behind : Memory → HostQueue → ControllerQueue → List ComEntry
 behind m h c = present (completions_from m c.controller.cq c.controller.entries (next_slot c.controller.entries h.ring.head) c.controller.ring.tail)
 
@@ -319,7 +319,7 @@ taken n head h = record h { ring = knowing head (next_head n h.ring) }
 abbrev pub one_fewer : ServedQueue → ServedQueue
 one_fewer at = record at { completions = drop 1 at.completions }
 
--- the controller's queue, once it heard the head
+-- the controller's queue, once it saw the head
 abbrev heard : ℕ → ControllerQueue → ControllerQueue
 heard v c = with_side (record c.controller { ring = hearing_head v c.controller.ring }) c
 

@@ -1,4 +1,4 @@
--- How a step of the controller changes a state, and what it leaves at its place.
+-- How a step of the controller changes a state, and what it leaves in place.
 use Rattle.machine_model.specs.After as a
 use Rattle.std.proofs.Common.{◌≡◌, ℕ, ◌+◌, ◌/◌, ◌%◌, ◌==◌, Bool, true, false, ◌&&◌, Option, Some, None, List, [], ◌∷◌, ◌++◌, map, take, drop, if◌then◌else◌, refl, ap, ap₂, sym, ◌∙◌, subst, eqb-true, inl, inr, zero, suc, ◌<◌, arith, length, find, slice_get, is_some, ◌≤◌, not}
 use Rattle.std.{proofs.lemmas.Bool.{true≢false, cases_Bool}, specs.{List.AllByRecursion, Option.option_map_or}}
@@ -28,7 +28,7 @@ pub use Rattle.machine_model.specs.Agreeing.{is_known_deleted as is_over, QueueF
 
 -- What an event of the controller leaves, case by case: a statement that holds of what each case leaves holds after the event.
 
--- A posted completion: the memory alone hangs on whether the queue is there
+-- A posted completion: only the memory depends on whether the queue is there
 
 abbrev pub posted_completion : ℕ → ℕ → Status → ℕ → State → PostedCompletion
 posted_completion q cid st dw0 s = record { cid = cid; status = st; dw0 = dw0; sq_head = fetch_slot s q }
@@ -69,7 +69,7 @@ fetch_by P s q idle conflict manages begins = elim (option_is (next_rung s q)) [
   | inr (e, n) ↦ fetch_of P s q e n (conflict e n) (manages e n) (begins e n)
 ]
 
--- Walking: the bytes that a unit leaves a job, the memory behind it, and both
+-- Walking: the bytes that a unit leaves a job, the memory after it, and both
 
 abbrev pub unit_bytes : State → Direction → Act → List ℕ → List ℕ
 unit_bytes s dir Stays bytes = bytes
@@ -150,7 +150,7 @@ ring_moved : (n q : ℕ) (g : HostRing → HostRing) (hs : List HostQueue) → (
     → AllByRecursion (λ queue. IsInRing n queue.ring) (change q (λ queue. record queue { ring = g queue.ring }) hs)
 ring_moved n q g hs each h = all_changed (λ queue. IsInRing n queue.ring) q (λ queue. record queue { ring = g queue.ring }) hs (λ queue e r. each queue.ring r) h
 
--- a queue's ring is left
+-- a queue's ring is unchanged
 ring_left : (n q : ℕ) (f : HostQueue → HostQueue) (hs : List HostQueue) → ((queue : HostQueue) → (f queue).ring ≡ queue.ring) → AllByRecursion (λ queue. IsInRing n queue.ring) hs → AllByRecursion (λ queue. IsInRing n queue.ring) (change q f hs)
 ring_left n q f hs same h = all_changed (λ queue. IsInRing n queue.ring) q f hs (λ queue e r. subst (IsInRing n) (sym (same queue)) r) h
 
@@ -240,7 +240,7 @@ paired_controller n zero f (h ∷ hs) (d ∷ ds) step p = (step h d refl refl p.
 paired_controller n (suc k) f (h ∷ hs) (d ∷ ds) step p = (p.0, paired_controller n k f hs ds step p.1)
 paired_controller n k f x y step p = absurd p
 
--- a queue of the controller stands at the host
+-- a queue of the controller is at the host
 pub paired_at : (n k : ℕ) (hs : List HostQueue) (ds : List ServedQueue) (d : ServedQueue) → slice_get ds k ≡ Some d → Paired n hs ds → (h : HostQueue) × (slice_get hs k ≡ Some h) × PairOk n h d
 paired_at n k [] [] d e p = absurd cc
 paired_at n zero (h ∷ hs) (x ∷ ds) d e p = let same : x ≡ d = cc in (h, refl, subst (λ (y : ServedQueue). PairOk n h y) same p.0)
@@ -252,7 +252,7 @@ pub record Tied (s : State) : Type 0 where
   pub some_entries : 0 < s.entries
   pub pairs : Paired s.entries s.host.queues s.controller.queues
   pub jobs : (q : ℕ) → 0 < total (on_queue q) s.controller.jobs → gone_at s.controller.queues q ≡ false
-  -- what the host holds for deleted is deleted
+  -- what the host takes for deleted is deleted
   pub over : (q : ℕ) (queue : HostQueue) → host_queue s q ≡ Some queue → is_over queue.state ≡ true → gone_at s.controller.queues q ≡ true
   pub gone : (q : ℕ) (queue : HostQueue) → host_queue s q ≡ Some queue → is_gone queue.state ≡ true → there_at s.controller.queues q ≡ false
 
@@ -293,11 +293,11 @@ linked_from_tied s rings tied = record {
 }
   where
     job_queue : (q cid : ℕ) → is_some (job_at s q cid) ≡ true → absent s q ≡ false
-    job_queue q cid h = go (job_at s q cid) refl h
+    job_queue q cid h = by_job (job_at s q cid) refl h
       where
-        go : (o : Option Job) → job_at s q cid ≡ o → is_some o ≡ true → absent s q ≡ false
-        go None e h = absurd (true≢false (sym h))
-        go (Some j) e h = tied.jobs q (found_counts q cid s.controller.jobs j e)
+        by_job : (o : Option Job) → job_at s q cid ≡ o → is_some o ≡ true → absent s q ≡ false
+        by_job None e h = absurd (true≢false (sym h))
+        by_job (Some j) e h = tied.jobs q (found_counts q cid s.controller.jobs j e)
 
 -- Where nothing was forged: what a change of one queue, or of the jobs, does to the tie of the controller's queues to the host's.
 
@@ -320,7 +320,7 @@ pub record Fit (n : ℕ) (rs : List Record) (hs : List HostQueue) (ds : List Ser
 pub tie_of : (n : ℕ) (rs : List Record) (hs : List HostQueue) (ds : List ServedQueue) (js : List Job) → Fit n rs hs ds js → Tie n hs ds js
 tie_of n rs hs ds js h = record { pairs = h.pairs; jobs = h.jobs; service = h.service }
 
--- what a queue passes not, it passes not as one is changed
+-- what a queue fails, it still fails as one is changed
 pub stays_false : {A : Type 0} (g : A → Bool) (b : Bool) (k : ℕ) (f : A → A) (xs : List A) (q : ℕ) → ((x : A) → slice_get xs k ≡ Some x → k ≡ q → g x ≡ false → g (f x) ≡ false)
     → option_map_or g (slice_get xs q) b ≡ false → option_map_or g (slice_get (change k f xs) q) b ≡ false
 stays_false g b zero f (x ∷ xs) zero step h = step x refl refl h

@@ -22,7 +22,7 @@ use Rattle.page_ledger.specs.Owners.{is_among}
 
 -- The walk of a list that spells parts reads where its segments lie, and moves where its parts lie.
 
--- Bytes at some places of a memory
+-- Bytes at some addresses of a memory
 
 pub only_bytes : (chain : ℕ → Bool) (m : Memory) (n place : ℕ) (bytes : List ℕ) → bytes_at (only chain m) place n ≡ Some bytes → bytes_at m place n ≡ Some bytes
 unfolding bytes_at
@@ -34,14 +34,14 @@ unfolding bytes_at
 only_places chain m zero place bytes e k lt = absurd (omega arith)
 only_places chain m (suc n) place bytes e zero lt = rw (add-zero place) (grind arith)
 only_places chain m (suc n) place bytes e (suc k) lt =
-    let rest = go (if chain place then m place else None) (bytes_at (only chain m) (place + 1) n) e in
+    let rest = rest_found (if chain place then m place else None) (bytes_at (only chain m) (place + 1) n) e in
     subst (λ (q : ℕ). chain q ≡ true) (omega arith) (only_places chain m n (place + 1) rest.0 rest.1 k (omega arith))
   where
-    go : (o : Option ℕ) (r : Option (List ℕ)) → joined o r ≡ Some bytes → (bs : List ℕ) × (r ≡ Some bs)
-    go (Some byte) (Some bs) e = (bs, refl)
-    go x r e = absurd cc
+    rest_found : (o : Option ℕ) (r : Option (List ℕ)) → joined o r ≡ Some bytes → (bs : List ℕ) × (r ≡ Some bs)
+    rest_found (Some byte) (Some bs) e = (bs, refl)
+    rest_found x r e = absurd cc
 
--- What stands ahead: so many descriptors of a segment, which spell parts with the segments behind it
+-- What lies ahead: some descriptors of a segment, which spell parts with the segments after it
 
 abbrev pub Ahead : Memory → Named → List Descriptor → List (List Descriptor) → List Part → Type 0
 Ahead m named ds segments parts =
@@ -89,7 +89,7 @@ first_ahead m named d ds segments parts (inr (by, f ∷ fs, last, rest, e, link,
     some [] e = cc
     some (f ∷ fs) e = cc
 
--- the parts that a link leads to, from the first descriptor of its segment on
+-- the parts that a link leads to, starting at the first descriptor of its segment
 pub record LinkedTo (m : Memory) (named : Named) (addr len : ℕ) (behind : List (List Descriptor)) (parts : List Part) : Type 0 where
   pub first : Descriptor
   pub others : List Descriptor
@@ -148,7 +148,7 @@ wanted_in chain own m dir need k c wanted h = either (nat_eq wanted 0)
     either true = tt
     either false = h
 
--- behind a part: the next descriptor of its segment, or the end
+-- after a part: the next descriptor of its segment, or the end
 next_in : (chain own : ℕ → Bool) (m : Memory) (dir : Direction) (need k : ℕ) → FromIn chain own m dir need k
     → (c : Cursor) (wanted : ℕ) (d : Descriptor) (ds : List Descriptor) (segments : List (List Descriptor)) (parts : List Part)
     → c.left ≡ length (d ∷ ds) → Stand (only chain m) (c.place + 16) ds → Ahead (only chain m) c.named ds segments parts → AllByRecursion (LiesIn own) parts
@@ -188,14 +188,14 @@ link_in chain own m dir need k from c wanted x segments parts link by lie = absu
 read_in : (chain own : ℕ → Bool) (m : Memory) (dir : Direction) (need k : ℕ) → FromIn chain own m dir need k → (c : Cursor) (wanted : ℕ) (d : Descriptor) (ds : List Descriptor) (segments : List (List Descriptor)) (parts : List Part)
     → c.left ≡ length (d ∷ ds) → Stand (only chain m) (c.place + 16) ds → Ahead (only chain m) c.named (d ∷ ds) segments parts → AllByRecursion (LiesIn own) parts
     → CourseIn chain own (after_read m dir need c wanted (rest_of k m dir need) (Some d))
-read_in chain own m dir need k from c wanted d ds segments parts left stand ahead lie = unless_in chain own (first_fault c d) _ (go (first_ahead (only chain m) c.named d ds segments parts ahead))
+read_in chain own m dir need k from c wanted d ds segments parts left stand ahead lie = unless_in chain own (first_fault c d) _ (by_first (first_ahead (only chain m) c.named d ds segments parts ahead))
   where
-    go : PartFirst (only chain m) c.named d ds segments parts ⊎ LinkFirst (only chain m) c.named d ds segments parts → CourseIn chain own (goes_on m dir need c wanted (rest_of k m dir need) d)
-    go (inl p) =
+    by_first : PartFirst (only chain m) c.named d ds segments parts ⊎ LinkFirst (only chain m) c.named d ds segments parts → CourseIn chain own (goes_on m dir need c wanted (rest_of k m dir need) d)
+    by_first (inl p) =
         let lie' : AllByRecursion (LiesIn own) (p.part ∷ p.parts') = subst (AllByRecursion (LiesIn own)) p.all lie in
         subst (λ (x : Descriptor). CourseIn chain own (goes_on m dir need c wanted (rest_of k m dir need) x)) (sym p.is)
         (part_in chain own m dir need k c wanted p.part lie'.0 (λ w. next_in chain own m dir need k from c w d ds segments p.parts' left stand p.ahead lie'.1))
-    go (inr l) = link_in chain own m dir need k from c wanted d segments parts l.link l.by lie
+    by_first (inr l) = link_in chain own m dir need k from c wanted d segments parts l.link l.by lie
 
 from_in : (chain own : ℕ → Bool) (m : Memory) (dir : Direction) (need k : ℕ) → FromIn chain own m dir need k
 unfolding from_place
@@ -207,7 +207,7 @@ from_in chain own m dir need (suc k) c wanted d ds segments parts left ((bytes, 
     (subst (λ (o : Option Descriptor). CourseIn chain own (Does (Reads c.place) (after_read m dir need c wanted (rest_of k m dir need) o))) (sym (found bytes d is))
     (only_places chain m 16 c.place bytes there, read_in chain own m dir need k (from_in chain own m dir need k) c wanted d ds segments parts left stand ahead lie)))
 
--- a list's first descriptor stands in a segment of one
+-- a list's first descriptor is in a segment of one
 pub spells_ahead : (m : Memory) (d : Descriptor) (segments : List (List Descriptor)) (parts : List Part) → SpellsBy m d segments parts → Ahead m Unnamed (d ∷ []) segments parts
 spells_ahead m (DataBlock addr len) (x ∷ xs) parts by = absurd by
 spells_ahead m (BitBucket len) (x ∷ xs) parts by = absurd by
@@ -223,8 +223,7 @@ list_in chain own m sgl1 first parts dir need spelled (segments, few, by) lie = 
       (read_in chain own m dir need 4095 (from_in chain own m dir need 4095) entry_cursor need first [] segments parts refl tt (spells_ahead (only chain m) first segments parts by) lie),
 )
 
--- The walk of a list that spells parts which are there ends without a fault where they count what is moved or more, and else for want of
--- a byte.
+-- The walk of a list that spells parts which are there ends without a fault where they count what is moved or more, and otherwise for lack of a byte.
 
 -- Bytes that are there
 
@@ -232,20 +231,20 @@ pub bytes_there : (m : Memory) (n place : ℕ) → ((k : ℕ) → k < n → is_s
 unfolding bytes_at
 bytes_there m zero place there = refl
 bytes_there m (suc n) place there =
-    let go : (a : Option ℕ) (b : Option (List ℕ)) → is_some a ≡ true → is_some b ≡ true → is_some (joined a b) ≡ true = λ a b e f. grind arith in
-    go (m place) (bytes_at m (place + 1) n) (subst (λ (q : ℕ). is_some (m q) ≡ true) (add-zero place) (there 0 (omega arith)))
+    let joined_is_there : (a : Option ℕ) (b : Option (List ℕ)) → is_some a ≡ true → is_some b ≡ true → is_some (joined a b) ≡ true = λ a b e f. grind arith in
+    joined_is_there (m place) (bytes_at m (place + 1) n) (subst (λ (q : ℕ). is_some (m q) ≡ true) (add-zero place) (there 0 (omega arith)))
     (bytes_there m n (place + 1) (λ k lt. subst (λ (q : ℕ). is_some (m q) ≡ true) (omega arith) (there (suc k) (omega arith))))
 
 last_there : (m : Memory) (n place : ℕ) (bytes : List ℕ) → bytes_at m place (suc n) ≡ Some bytes → is_some (m (place + n)) ≡ true
 unfolding bytes_at
 last_there m zero place bytes e = rw (add-zero place) (grind arith)
 last_there m (suc n) place bytes e =
-    let rest = go (m place) (bytes_at m (place + 1) (suc n)) e in
+    let rest = rest_found (m place) (bytes_at m (place + 1) (suc n)) e in
     subst (λ (q : ℕ). is_some (m q) ≡ true) (omega arith) (last_there m n (place + 1) rest.0 rest.1)
   where
-    go : (a : Option ℕ) (b : Option (List ℕ)) → joined a b ≡ Some bytes → (bs : List ℕ) × (b ≡ Some bs)
-    go (Some x) (Some xs) e = (xs, refl)
-    go x b e = absurd cc
+    rest_found : (a : Option ℕ) (b : Option (List ℕ)) → joined a b ≡ Some bytes → (bs : List ℕ) × (b ≡ Some bs)
+    rest_found (Some x) (Some xs) e = (xs, refl)
+    rest_found x b e = absurd cc
 
 -- where descriptors stand, their last byte does
 end_of_stand : (m : Memory) (place : ℕ) (d : Descriptor) (ds : List Descriptor) → Stand m place (d ∷ ds) → is_some (m (place + 16 * length ds + 15)) ≡ true
@@ -271,7 +270,7 @@ part_fits m part there = grind arith
 no_link : (part : Part) → is_link (descriptor_of_part part) ≡ false
 no_link part = grind arith
 
--- the fault of a link that names a whole segment, from the last place of one that no Last Segment descriptor names
+-- the fault of a link that names a whole segment, from the last position of one that no Last Segment descriptor names
 names_one : (addr len l : ℕ) → addr % 8 ≡ 0 → len ≡ 16 * suc l → names_no_segment (Segment addr len) ≡ false
 names_one addr len l aligned whole = grind (arith, nat_tests)
 
@@ -282,7 +281,7 @@ no_fault_of_link c addr len l named left aligned whole ends = (
   no_fault c (LastSegment addr len) named (not_less 1 c.left (omega (arith, left))) (names_one addr len l aligned whole) refl (not_less (2 ^ 64) (addr + len) ends),
 )
 
--- The front of a part has the first of its targets
+-- A prefix of a part has the first of its targets
 
 abbrev front_of : ℕ → Part → Part
 front_of wanted (Data addr len) = Data addr (min len wanted)
@@ -327,7 +326,7 @@ fronts_join dir before wanted part parts =
 
 -- Courses that end
 
--- how a course ends that wants so many bytes of parts that count so many
+-- how a course ends that wants some bytes of parts, by how many they count
 abbrev end_of : ℕ → ℕ → WalkState
 end_of wanted count = if nat_lt count wanted then Fault DATA_SGL_LENGTH_INVALID else End
 
@@ -339,14 +338,14 @@ short_ends wanted count short =
     let less : nat_lt count wanted ≡ true = grind (arith, nat_tests) in
     ap (λ (b : Bool). if b then Fault DATA_SGL_LENGTH_INVALID else End) less
 
--- a part less is wanted where it is taken
+-- once a part is taken, that much less is wanted
 end_behind : (wanted count behind : ℕ) → end_of (wanted - count) behind ≡ end_of wanted (count + behind)
 end_behind wanted count behind = elim (cases_lt (count + behind) wanted) [
   | inl short ↦ short_ends (wanted - count) behind (omega (arith, short)) ∙ sym (short_ends wanted (count + behind) short)
   | inr enough ↦ enough_ends (wanted - count) behind (omega (arith, enough)) ∙ sym (enough_ends wanted (count + behind) enough)
 ]
 
--- The course ends so, and what it takes behind other parts has the wanted front of the targets of these.
+-- The course ends so, and what it takes after other parts has the wanted prefix of the targets of these.
 record EndsWith (m : Memory) (dir : Direction) (need wanted : ℕ) (parts : List Part) (c : Course) : Type 0 where
   ends : verdict c ≡ end_of wanted (counted_in dir parts)
   takes : (before : List Part) → counted_in dir before + wanted ≡ need → targets dir (parts_taken m dir need before c) ≡ targets dir before ++ take wanted (targets dir parts)
@@ -474,10 +473,10 @@ read_ends : (m : Memory) (dir : Direction) (need k : ℕ) → ((place : ℕ) →
     → c.left ≡ length (d ∷ ds) → Stand m (c.place + 16) ds → Ahead m c.named (d ∷ ds) segments parts → length ds + descriptors_in segments ≤ k
     → AllByRecursion (IsThere m) parts
     → EndsBehind m dir need wanted d parts (after_read m dir need c wanted (rest_of k m dir need) (Some d))
-read_ends m dir need k low from c wanted d ds segments parts left stand ahead few there = go (first_ahead m c.named d ds segments parts ahead)
+read_ends m dir need k low from c wanted d ds segments parts left stand ahead few there = by_first (first_ahead m c.named d ds segments parts ahead)
   where
-    go : PartFirst m c.named d ds segments parts ⊎ LinkFirst m c.named d ds segments parts → EndsBehind m dir need wanted d parts (after_read m dir need c wanted (rest_of k m dir need) (Some d))
-    go (inl p) =
+    by_first : PartFirst m c.named d ds segments parts ⊎ LinkFirst m c.named d ds segments parts → EndsBehind m dir need wanted d parts (after_read m dir need c wanted (rest_of k m dir need) (Some d))
+    by_first (inl p) =
         let there' : AllByRecursion (IsThere m) (p.part ∷ p.parts') = subst (AllByRecursion (IsThere m)) p.all there in
         subst (λ (x : Descriptor). EndsBehind m dir need wanted x parts (after_read m dir need c wanted (rest_of k m dir need) (Some x))) (sym p.is)
         (subst (λ (ps : List Part). EndsBehind m dir need wanted (descriptor_of_part p.part) ps (after_read m dir need c wanted (rest_of k m dir need) (Some (descriptor_of_part p.part)))) (sym p.all)
@@ -494,7 +493,7 @@ read_ends m dir need k low from c wanted d ds segments parts left stand ahead fe
         alone : (ds : List Descriptor) → suc (length ds) ≡ 1 → ds ≡ []
         alone [] e = refl
         alone (x ∷ xs) e = absurd (omega (arith, e))
-    go (inr l) =
+    by_first (inr l) =
         link_ends m dir need k low from c wanted d segments parts l.link l.named_so (left ∙ ap (λ (xs : List Descriptor). suc (length xs)) l.is_last) l.by (omega (arith, few)) there
 
 from_ends : (m : Memory) (dir : Direction) (need : ℕ) → ((place : ℕ) → is_some (m place) ≡ true → place < 2 ^ 64) → (k : ℕ) → FromEnds m dir need k
@@ -511,7 +510,7 @@ from_ends m dir need low (suc k) c wanted d ds segments parts left ((bytes, is_t
           (subst (λ (o : Option Descriptor). targets dir (parts_taken m dir need (taken dir need before o) (after_read m dir need c wanted (rest_of k m dir need) o)) ≡ targets dir before ++ take wanted (targets dir parts)) (sym (found bytes d is)) (ends.1 before sum));
     }))
 
--- from its entry's descriptor on
+-- starting at its entry's descriptor
 list_ends : (m : Memory) (sgl1 : List ℕ) (first : Descriptor) (parts : List Part) (dir : Direction) (need : ℕ)
     → ((place : ℕ) → is_some (m place) ≡ true → place < 2 ^ 64) → descriptor_of sgl1 ≡ Some first → Spells m first parts → AllByRecursion (IsThere m) parts
     → (verdict_of_list m sgl1 dir need ≡ end_of need (counted_in dir parts)) × (targets dir (parts_of_list m sgl1 dir need) ≡ take need (targets dir parts))

@@ -37,9 +37,9 @@ use Rattle.page_memory.proofs.Lists.{all-append, some_is}
 
 -- What the controller finds at the head of a queue is what the machine has there, where nothing was forged; so both refuse a fetch alike.
 
--- What is looked at, whatever was forged
+-- What a fetch looks at, whatever was forged
 
--- a live queue with something rung, and the entry at the controller's head
+-- a live queue with something announced, and the entry at the controller's head
 pub record IsLooked (s : Sides) (q : ℕ) (c : ControllerQueue) (e : SubEntry) : Type 0 where
   pub here : slice_get s.controller.queues q ≡ Some c
   pub live : is_live c.state ≡ true
@@ -78,7 +78,7 @@ pub record IsSeen (s : Sides) (q : ℕ) (c : ControllerQueue) (e : SubEntry) : T
   pub next : next_rung (state_of s) q ≡ Some e
   pub page : fetch_page (state_of s) q ≡ page_of_head c
   pub inside : is_in s.pages (fetch_page (state_of s) q) ≡ true
-  -- each identifier stands once
+  -- each identifier occurs once
   pub unknown : is_known s.controller q e ≡ false
   pub alone : conflicts (state_of s) q ≡ false
 
@@ -115,7 +115,7 @@ seen s q c e world t l =
       alone = ap (λ (o : Option SubEntry). option_map_or (λ e. is_some (job_at (state_of s) q e.cid)) o false) next ∙ alone;
     }
 
--- nothing is rung where the controller finds nothing
+-- the machine serves no queue that the controller does not have
 no_controller : (m : Memory) (hs : List HostQueue) (cs : List ControllerQueue) (q : ℕ) → slice_get cs q ≡ None → slice_get (served_queues_of m hs cs) q ≡ None
 no_controller m (h ∷ hs) (c ∷ cs) zero e = cc
 no_controller m (h ∷ hs) (c ∷ cs) (suc q) e = no_controller m hs cs q e
@@ -182,7 +182,7 @@ refuse_alike s q world t = elim (looks s q world t) [
 
 -- a look finds nothing, or no bytes
 look_is : (P : controller.Refusal → Type 0) → P because.Idle → P because.SlotOut → (s : Sides) (q : ℕ) (why : controller.Refusal) → look_refusal s.controller (byte_at s.pages) q ≡ Some why → P why
-look_is P idle out s q why e = go (slice_get s.controller.queues q) e
+look_is P idle out s q why e = by_queue (slice_get s.controller.queues q) e
   where
     is : (cause : controller.Refusal) → P cause → Some cause ≡ Some why → P why
     is cause p e = let same : cause ≡ why = cc in subst P same p
@@ -196,9 +196,9 @@ look_is P idle out s q why e = go (slice_get s.controller.queues q) e
     live c true e = side (c.controller.ring.head == c.controller.ring.bell) (entry_at (byte_at s.pages) c.controller.sq c.controller.ring.head) e
     live c false e = is because.Idle idle e
 
-    go : (o : Option ControllerQueue) → option_map_or (side_refusal (byte_at s.pages)) (live_side o) (Some because.Idle) ≡ Some why → P why
-    go None e = is because.Idle idle e
-    go (Some c) e = live c (is_live c.state) e
+    by_queue : (o : Option ControllerQueue) → option_map_or (side_refusal (byte_at s.pages)) (live_side o) (Some because.Idle) ≡ Some why → P why
+    by_queue None e = is because.Idle idle e
+    by_queue (Some c) e = live c (is_live c.state) e
 
 look_permits : (s : Sides) (q : ℕ) (why : controller.Refusal) → IsWorld s → look_refusal s.controller (byte_at s.pages) q ≡ Some why → Permits (state_of s) (events.Fetch q) (events.Refused (why_of why) [])
 look_permits s q why world e =
@@ -215,7 +215,7 @@ look_permits s q why world e =
 -- no room for a completion at once, or no memory for the command
 cause_is : (P : controller.Refusal → Type 0) → P because.Full → P because.SlotOut → P because.Memory → (m : Memory) (why : controller.Refusal) (known : Bool) (o : Option ControllerQueue)
     → (if known then (if known then option_map_or (λ queue. post_refusal m queue.controller) o None else None) else Some because.Memory) ≡ Some why → P why
-cause_is P full out memory m why known o e = go known o e
+cause_is P full out memory m why known o e = by_identifier known o e
   where
     is : (cause : controller.Refusal) → P cause → Some cause ≡ Some why → P why
     is cause p e = let same : cause ≡ why = cc in subst P same p
@@ -225,10 +225,10 @@ cause_is P full out memory m why known o e = go known o e
     post false true e = is because.SlotOut out e
     post false false e = absurd cc
 
-    go : (known : Bool) (o : Option ControllerQueue) → (if known then (if known then option_map_or (λ queue. post_refusal m queue.controller) o None else None) else Some because.Memory) ≡ Some why → P why
-    go true None e = absurd cc
-    go true (Some c) e = post (is_full c.controller.entries c.controller.ring.known_head c.controller.ring.tail) (is_none (completion_slot m c.controller.cq c.controller.ring.tail)) e
-    go false o e = is because.Memory memory e
+    by_identifier : (known : Bool) (o : Option ControllerQueue) → (if known then (if known then option_map_or (λ queue. post_refusal m queue.controller) o None else None) else Some because.Memory) ≡ Some why → P why
+    by_identifier true None e = absurd cc
+    by_identifier true (Some c) e = post (is_full c.controller.entries c.controller.ring.known_head c.controller.ring.tail) (is_none (completion_slot m c.controller.cq c.controller.ring.tail)) e
+    by_identifier false o e = is because.Memory memory e
 
 entry_permits : (s : Sides) (q : ℕ) (why : controller.Refusal) (touched : List ℕ) → IsWorld s → RefusedEntry s.controller (byte_at s.pages) [] q why touched → Permits (state_of s) (events.Fetch q) (events.Refused (why_of why) touched)
 entry_permits s q why touched world r =
@@ -269,7 +269,7 @@ fetch_stepped s q c e new pages touched world l serves few exact =
     (λ f. (ap is_some found, few)))
     (λ t. let done = exact t (seen s q c e world t l) in (done.1, done.2, done.3))
 
--- The sides behind the entry that was taken
+-- The sides after the entry was taken
 
 abbrev taken : ℕ → Sides → Sides
 taken q s = record s { controller = record s.controller { queues = change q with_taken s.controller.queues } }
@@ -352,7 +352,7 @@ manages s c e world l is =
       all-append (λ (k : FetchedCommand). WalkStands m k.units_done k.work) (commands_after e.cid v s.controller.commands) (command_of zero (admin_work e v)) (verdict_walks v m e.cid s.controller.commands tied.walks) tt,
     ))
 
--- An identifier that was fetched already: only behind a forged entry
+-- An identifier that was fetched already: only after a forged entry
 
 answers : (s : Sides) (q : ℕ) (c : ControllerQueue) (e : SubEntry) (new : Contents) (pages : Pages) (looked touched : List ℕ) → IsWorld s → IsLooked s q c e → IsController new → LeavesPages s.pages pages
     → is_known s.controller q e ≡ true → entry_refusal s.controller (byte_at s.pages) q e ≡ None → looked ≡ page_of_head c ∷ []

@@ -371,7 +371,7 @@ pub record SparesQueue (old new : Pages) (h : HostQueue) : Type 0 where
   pub submission : (p : ℕ) → is_among h.sq_pages p ≡ true → page_at new p ≡ page_at old p
   pub completion : (p : ℕ) → is_among h.cq_pages p ≡ true → page_at new p ≡ page_at old p
 
--- the same bytes stand in a run of pages
+-- the same bytes are in a run of pages
 same_run : (s : Sides) (pages : Pages) (own : List ℕ) (first many : ℕ) → ((p : ℕ) → is_among own p ≡ true → page_at pages p ≡ page_at s.pages p) → own ≡ pages_from first many
     → Agree (byte_at pages) (byte_at s.pages) first many
 same_run s pages own first many same lie =
@@ -465,7 +465,7 @@ all_stand_still s pages world t spares =
 
 -- Walks
 
--- so it is behind each accepted event that leaves the commands alone
+-- so it is after each accepted event that leaves the commands alone
 pub walks_after : (s : Sides) (e : Event) (reply : Reply) → IsWorld s → s.trusted ≡ true → Accepts (state_of s) e reply → WalksStand (memory_of (after (state_of s) e reply).memory) s.controller.commands
 walks_after s e reply world t ok = still_stands s (after (state_of s) e reply).memory world t (stay_after (state_of s) e reply ok (stood s world t))
 
@@ -473,18 +473,18 @@ walks_after s e reply world t ok = still_stands s (after (state_of s) e reply).m
 submitted_owner : (p : ℕ) (rs : List Record) → 0 < total (sent_page p) rs
     → (i : ℕ) × (r : Record) × (slice_get rs i ≡ Some r) × (is_submitted r.phase ≡ true) × (is_among (pages_of r) p ≡ true)
 submitted_owner p [] some = absurd (omega (arith, some))
-submitted_owner p (r ∷ rs) some = go (is_submitted r.phase) (is_among (pages_of r) p) refl refl some (submitted_owner p rs)
+submitted_owner p (r ∷ rs) some = owner_found (is_submitted r.phase) (is_among (pages_of r) p) refl refl some (submitted_owner p rs)
   where
     later : (i : ℕ) × (x : Record) × (slice_get rs i ≡ Some x) × (is_submitted x.phase ≡ true) × (is_among (pages_of x) p ≡ true)
         → (i : ℕ) × (x : Record) × (slice_get (r ∷ rs) i ≡ Some x) × (is_submitted x.phase ≡ true) × (is_among (pages_of x) p ≡ true)
     later (i, x, at, sub, among) = (suc i, x, at, sub, among)
 
-    go : (b a : Bool) → is_submitted r.phase ≡ b → is_among (pages_of r) p ≡ a → 0 < (if b then in_record p r else 0) + total (sent_page p) rs
+    owner_found : (b a : Bool) → is_submitted r.phase ≡ b → is_among (pages_of r) p ≡ a → 0 < (if b then in_record p r else 0) + total (sent_page p) rs
         → (0 < total (sent_page p) rs → (i : ℕ) × (x : Record) × (slice_get rs i ≡ Some x) × (is_submitted x.phase ≡ true) × (is_among (pages_of x) p ≡ true))
         → (i : ℕ) × (x : Record) × (slice_get (r ∷ rs) i ≡ Some x) × (is_submitted x.phase ≡ true) × (is_among (pages_of x) p ≡ true)
-    go true true sub among l ih = (0, r, refl, sub, among)
-    go true false sub among l ih = later (ih (omega (arith, l, not_held p (pages_of r) among)))
-    go false a sub among l ih = later (ih (omega (arith, l)))
+    owner_found true true sub among l ih = (0, r, refl, sub, among)
+    owner_found true false sub among l ih = later (ih (omega (arith, l, not_held p (pages_of r) among)))
+    owner_found false a sub among l ih = later (ih (omega (arith, l)))
 
 -- Walks read the pages of submitted commands alone: where these are the same, what is left of each list is.
 abbrev pub SparesSubmitted : Sides → Pages → Type 0

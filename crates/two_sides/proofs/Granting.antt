@@ -28,21 +28,21 @@ set_in (z ∷ m) (suc p) x l = set_in m p x (omega (arith, l))
 pub zeroed_there : (ps : List ℕ) (m : Pages) (p : ℕ) → p < length m → (is_among ps p ≡ false → page_at m p ≡ Some zero_page) → page_at (with_pages (zeroed_pages ps) m) p ≡ Some zero_page
 zeroed_there [] m p l before = before refl
 zeroed_there (x ∷ ps) m p l before =
-    zeroed_there ps (slice_set m x (Some zero_page)) p (subst (λ (n : ℕ). p < n) (sym (length-set m x (Some zero_page))) l) (λ none. go (x == p) refl none)
+    zeroed_there ps (slice_set m x (Some zero_page)) p (subst (λ (n : ℕ). p < n) (sym (length-set m x (Some zero_page))) l) (λ none. by_page (x == p) refl none)
   where
-    go : (b : Bool) → (x == p) ≡ b → is_among ps p ≡ false → page_at (slice_set m x (Some zero_page)) p ≡ Some zero_page
-    go true e none = subst (λ (k : ℕ). page_at (slice_set m k (Some zero_page)) p ≡ Some zero_page) (sym (eqb-true x p e)) (set_in m p zero_page l)
-    go false e none = set-other m x p (Some zero_page) (eqb-false x p e) ∙ before (ap (λ (b : Bool). b || is_among ps p) e ∙ none)
+    by_page : (b : Bool) → (x == p) ≡ b → is_among ps p ≡ false → page_at (slice_set m x (Some zero_page)) p ≡ Some zero_page
+    by_page true e none = subst (λ (k : ℕ). page_at (slice_set m k (Some zero_page)) p ≡ Some zero_page) (sym (eqb-true x p e)) (set_in m p zero_page l)
+    by_page false e none = set-other m x p (Some zero_page) (eqb-false x p e) ∙ before (ap (λ (b : Bool). b || is_among ps p) e ∙ none)
 
 -- The pages of a run are free
 
 run_is_free : (free : List ℕ) (count first : ℕ) → first_of_run free count ≡ Some first → (p : ℕ) → is_among (pages_from first count) p ≡ true → is_among free p ≡ true
-run_is_free free count first is p among = go (is_among (pages_from first count) p) (is_among free p) (run_times free count first is p)
+run_is_free free count first is p among = by_presence (is_among (pages_from first count) p) (is_among free p) (run_times free count first is p)
   where
-    go : (a b : Bool) → times p (pages_from first count) ≡ (if a && b then 1 else 0) → b ≡ true
-    go a true count' = refl
-    go true false count' = absurd (omega (arith, count', held_once p (pages_from first count) among))
-    go false false count' = absurd (omega (arith, count', held_once p (pages_from first count) among))
+    by_presence : (a b : Bool) → times p (pages_from first count) ≡ (if a && b then 1 else 0) → b ≡ true
+    by_presence a true count' = refl
+    by_presence true false count' = absurd (omega (arith, count', held_once p (pages_from first count) among))
+    by_presence false false count' = absurd (omega (arith, count', held_once p (pages_from first count) among))
 
 module _ (s : Sides) (world : IsWorld s) (count first : ℕ) (run : first_of_run s.host.host.free count ≡ Some first) where
   abbrev pub granted_pool : Pages
@@ -81,7 +81,7 @@ module _ (s : Sides) (world : IsWorld s) (count first : ℕ) (run : first_of_run
 pub zeros_granted : (pages : Pages) (n first : ℕ) → ((k : ℕ) → k < half_pages n Completion → page_at pages (first + k) ≡ Some zero_page) → PhasesStand (byte_at pages) first n 0 true
 zeros_granted pages n first zeros = zeros_stand (byte_at pages) first n (pages_zero pages first (half_pages n Completion) zeros)
 
--- Both sides' queues behind a reset: queue 0 with fresh rings over zero pages, and no other queue.
+-- Both sides' queues after a reset: queue 0 with fresh rings over zero pages, and no other queue.
 
 -- What the machine has of them
 
@@ -97,14 +97,14 @@ controllers_reset m m' x cs = refl
 -- What both sides share
 
 ring_reset : (n q i : ℕ) (h h' : HostQueue) (c : ControllerQueue) → ShareQueue n q h c → ShareQueue n q h' (queue_reset i c)
-ring_reset n q i h h' c share = go i
+ring_reset n q i h h' c share = by_index i
   where
     fresh : IsControllerSide (record c.controller { ring = fresh_controller_ring })
     fresh = record { least = share.side.least; most = share.side.most; head = omega (arith, share.side.least); bell = omega (arith, share.side.least); tail = omega (arith, share.side.least); known_head = omega (arith, share.side.least) }
 
-    go : (i : ℕ) → ShareQueue n q h' (queue_reset i c)
-    go zero = record { number = share.number; entries = share.entries; side = fresh }
-    go (suc i) = record { number = share.number; entries = share.entries; side = fresh }
+    by_index : (i : ℕ) → ShareQueue n q h' (queue_reset i c)
+    by_index zero = record { number = share.number; entries = share.entries; side = fresh }
+    by_index (suc i) = record { number = share.number; entries = share.entries; side = fresh }
 
 no_queues_shared : (n q : ℕ) (hs : List HostQueue) (cs : List ControllerQueue) → ShareQueues n q hs cs → ShareQueues n q (map (λ other. a.no_queue) hs) (queues_reset q cs)
 no_queues_shared n q [] [] share = tt

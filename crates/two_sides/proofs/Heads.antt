@@ -60,13 +60,13 @@ shrunk n tail (suc many) head h t le =
     let rest = shrunk n tail many (next_slot n head) (next_below n head h) t (omega (arith, le, one_less)) in
     (rest.0, omega (arith, rest.1, one_less))
 
--- so many entries behind the tail
+-- this many entries behind the tail
 pub head_at : (n tail u : ℕ) → tail < n → u < n → (moved n tail (n - u) < n) × (distance n (moved n tail (n - u)) tail ≡ u)
-head_at n tail u t few = go (n - u) refl
+head_at n tail u t few = by_steps (n - u) refl
   where
-    go : (m : ℕ) → n - u ≡ m → (moved n tail m < n) × (distance n (moved n tail m) tail ≡ u)
-    go zero e = absurd (omega (arith, e, few))
-    go (suc m) e =
+    by_steps : (m : ℕ) → n - u ≡ m → (moved n tail m < n) × (distance n (moved n tail m) tail ≡ u)
+    by_steps zero e = absurd (omega (arith, e, few))
+    by_steps (suc m) e =
         let full : distance n (next_slot n tail) tail ≡ n - 1 = next_full n (next_slot n tail) tail (next_below n tail t) t refl in
         let rest = shrunk n tail m (next_slot n tail) (next_below n tail t) t (omega (arith, e, full)) in
         (rest.0, omega (arith, rest.1, full, e, few))
@@ -109,7 +109,7 @@ pub length_outstanding : (q : ℕ) (rs : List Record) → length (map (λ r. r.c
 length_outstanding q [] = refl
 length_outstanding q (r ∷ rs) = grind (arith, length_outstanding q rs)
 
--- a queue's place in a changed list
+-- a queue's position in a changed list
 pub changed_at : {A : Type 0} (k : ℕ) (f : A → A) (xs : List A) (q : ℕ) (y : A) → slice_get (change k f xs) q ≡ Some y → ((k ≡ q) × ((x : A) × (slice_get xs q ≡ Some x) × (y ≡ f x))) ⊎ ((k ≡ q → ⊥) × (slice_get xs q ≡ Some y))
 changed_at k f [] q y e = absurd cc
 changed_at zero f (x ∷ xs) zero y e = inl (refl, (x, refl, cc))
@@ -144,7 +144,7 @@ heads_controller n hs rs qs qs' same h = record {
   behind = λ q queue e past. subst (HeadBehind n (sent_count q rs) queue) (sym (same q)) (h.behind q queue e past);
 }
 
--- a queue of the host changes: what is said of it, and what stood of the others
+-- a queue of the host changes: what is said of it, and what held of the others
 heads_change : (n k : ℕ) (f : HostQueue → HostQueue) (hs : List HostQueue) (rs : List Record) (qs : List ServedQueue)
     → ((x : HostQueue) → slice_get hs k ≡ Some x → in_service (f x).state ≡ true → HeadBehind n (sent_count k rs) (f x) (completions_at qs k)) → Heads n hs rs qs → Heads n (change k f hs) rs qs
 heads_change n k f hs rs qs here h = record { ids = h.ids; behind = λ q queue e past. at q queue past (changed_at k f hs q queue e) }
@@ -290,7 +290,7 @@ heads_consumed q s h = record {
         subst (λ (y : HostQueue). HeadBehind s.entries (sent_count k s.host.records) y (completions_at (change q (λ at. record at { completions = drop 1 at.completions }) s.controller.queues) k)) (sym is)
         (record { known = b.known; completions = dropped k x.ring.tail (sent_count k s.host.records) b.completions })
 
--- a good completion: the host knows its head, and one command is submitted no more
+-- a good completion: the host knows its head, and one command is no longer submitted
 pub heads_heard : (q : ℕ) (an : PostedCompletion) (s : State) (rs : List Record) → option_and_then (λ queue. front_completion queue.completions) (served_queue s q) ≡ Some an → AllByRecursion (λ r. r.cid < s.entries - 1) rs
     → ((k : ℕ) → sent_count k s.host.records ≤ sent_count k rs + (if q == k then 1 else 0)) → HeadsS s
     → Heads s.entries (a.heard q (entry_of q an) s).host.queues rs (change q (λ at. record at { completions = drop 1 at.completions }) s.controller.queues)
@@ -397,7 +397,7 @@ heads_retire q s h = record { ids = ids; behind = λ k x ex open'. at k x open' 
 
 -- no entry in hand has the identifier of a job
 pub no_conflict : (s : State) → Stood s → (q : ℕ) (e : SubEntry) → InHand s q e → is_some (job_at s q e.cid) ≡ false
-no_conflict s stood q e hand = go (job_at s q e.cid) refl
+no_conflict s stood q e hand = by_job (job_at s q e.cid) refl
   where
     here_first : 1 ≤ total (λ (x : SubEntry). one (x.cid == e.cid)) (unfetched_at s.controller.queues q)
     here_first =
@@ -411,9 +411,9 @@ no_conflict s stood q e hand = go (job_at s q e.cid) refl
         each : (x y z : Bool) → (if x && y then one z else 0) ≤ one (x && z)
         each x y z = grind arith
 
-    go : (o : Option Job) → job_at s q e.cid ≡ o → is_some o ≡ false
-    go None n = refl
-    go (Some j) n =
+    by_job : (o : Option Job) → job_at s q e.cid ≡ o → is_some o ≡ false
+    by_job None n = refl
+    by_job (Some j) n =
         let ids = and_parts (j.q == q) (j.entry.cid == e.cid) (found_is (is_job q e.cid) s.controller.jobs j n) in
         let mine : job_weight q (λ c. one (c == e.cid)) j ≡ 1 = subst (λ (b : Bool). (if b then one (j.entry.cid == e.cid) else 0) ≡ 1) (sym ids.0) (ap one ids.1) in
         let counted : unfetched_count q (λ c. one (c == e.cid)) s.host.queues s.controller.queues ≡ total (λ (x : SubEntry). one (x.cid == e.cid)) (unfetched_at s.controller.queues q) =

@@ -75,7 +75,7 @@ reaped_told s q o = grind arith
 reaped_alike : (s : Sides) (q : ℕ) → told (seen_entry (alone s.host s.pages) q) ≡ told (seen_entry (state_of s) q) → reaped (alone s.host s.pages) q ≡ reaped (state_of s) q
 reaped_alike s q alike = grind arith
 
--- What the controller hears
+-- What the controller sees
 
 rung : (what : Reaped) (q : ℕ) (host : HostView) → (what ≡ found.Empty → ⊥) → head_rung host q what ≡ head_of host q
 rung what q host some = grind arith
@@ -91,7 +91,7 @@ reap_leads s tied q v what host some t =
       walks = tied.walks;
     }
 
--- The queues behind it
+-- The queues after it
 
 change_twice : {A : Type 0} (f g : A → A) (q : ℕ) (xs : List A) → change q f (change q g xs) ≡ change q (λ x. f (g x)) xs
 change_twice f g q [] = refl
@@ -135,9 +135,9 @@ consumes s world tied t q why none is = elim (option_is (seen_entry (state_of s)
       (next_slot n h.0.ring.head, takes s world tied q h.0.ring.known_head h.0 x.0 (λ queue. record queue { ring = next_head n queue.ring }) x.1 (known_follows s q h.0 x.0 x.1) refl)
 ]
 
--- What a completion that is reaped tells of the queues behind it
+-- What a completion that is reaped tells of the queues after it
 
--- a queue behind it, as it was before
+-- a queue after it, as it was before
 record Was (s : Sides) (k : ℕ) (h : HostQueue) (c : ControllerQueue) : Type 0 where
   host : HostQueue
   at : slice_get s.host.host.queues k ≡ Some host
@@ -147,11 +147,11 @@ record Was (s : Sides) (k : ℕ) (h : HostQueue) (c : ControllerQueue) : Type 0 
   completions : c.cq_there ≡ queue.cq_there
 
 head_keeps : (v : ℕ) (c : ControllerQueue) → ((controller.with_head v c).state ≡ c.state) × ((controller.with_head v c).cq_there ≡ c.cq_there)
-head_keeps v c = go (is_in_range c.controller.entries c.controller.ring.known_head c.controller.ring.tail v)
+head_keeps v c = by_range (is_in_range c.controller.entries c.controller.ring.known_head c.controller.ring.tail v)
   where
-    go : (b : Bool) → (let d : ControllerQueue = (if b then controller.with_side (record c.controller { ring = hearing_head v c.controller.ring }) c else c) in (d.state ≡ c.state) × (d.cq_there ≡ c.cq_there))
-    go true = (refl, refl)
-    go false = (refl, refl)
+    by_range : (b : Bool) → (let d : ControllerQueue = (if b then controller.with_side (record c.controller { ring = hearing_head v c.controller.ring }) c else c) in (d.state ≡ c.state) × (d.cq_there ≡ c.cq_there))
+    by_range true = (refl, refl)
+    by_range false = (refl, refl)
 
 head_at : (q k v : ℕ) (cs : List ControllerQueue) (c : ControllerQueue) → slice_get (change q (controller.with_head v) cs) k ≡ Some c
     → (d : ControllerQueue) × (slice_get cs k ≡ Some d) × (c.state ≡ d.state) × (c.cq_there ≡ d.cq_there)
@@ -184,14 +184,14 @@ module _ (s : Sides) (world : IsWorld s) (tied : AreTied s) (t : s.trusted ≡ t
   -- a queue whose deletion the host is told of is in service, and stays so
   noted : r.work ≡ Management (DeleteSq k) → (h : HostQueue) (c : ControllerQueue) → slice_get (a.heard q e (state_of s)).host.queues k ≡ Some h
       → QueueStands s.host.entries (byte_at s.pages) k h c → QueueStands s.host.entries (byte_at s.pages) k (record h { state = if is_success st then Deleting true else Live }) c
-  noted w h c at stands = go (is_success st)
+  noted w h c at stands = by_success (is_success st)
     where
       served : in_service h.state ≡ true
       served = ap in_service (asked_as_heard (state_of s) q cid st e r k holds heard w h at)
 
-      go : (b : Bool) → QueueStands s.host.entries (byte_at s.pages) k (record h { state = if b then Deleting true else Live }) c
-      go true = still_serves s.host.entries (byte_at s.pages) k h c (Deleting true) served refl refl stands
-      go false = still_serves s.host.entries (byte_at s.pages) k h c Live served refl refl stands
+      by_success : (b : Bool) → QueueStands s.host.entries (byte_at s.pages) k (record h { state = if b then Deleting true else Live }) c
+      by_success true = still_serves s.host.entries (byte_at s.pages) k h c (Deleting true) served refl refl stands
+      by_success false = still_serves s.host.entries (byte_at s.pages) k h c Live served refl refl stands
 
   -- a completion half is given back that was deleted, or that was not made
   freed : r.work ≡ Management (DeleteCq k) → is_success st ≡ true → (h : HostQueue) (c : ControllerQueue) → slice_get (a.heard q e (state_of s)).host.queues k ≡ Some h
@@ -315,15 +315,15 @@ deleted_known : (st : HostState) → is_deleted st ≡ true → is_known_deleted
 deleted_known st e = grind arith
 
 retire_refusal : (s : Sides) → IsWorld s → (q : ℕ) → refusal_of (alone s.host s.pages) (events.Retire q) ≡ refusal_of (state_of s) (events.Retire q)
-retire_refusal s world q = go (in_state is_deleted (state_of s) q) refl
+retire_refusal s world q = by_state (in_state is_deleted (state_of s) q) refl
   where
-    go : (b : Bool) → in_state is_deleted (state_of s) q ≡ b
+    by_state : (b : Bool) → in_state is_deleted (state_of s) q ≡ b
         → first_passing ((not b, refusal.NotDeleted) ∷ (is_some (seen_entry (alone s.host s.pages) q), refusal.NotDrained) ∷ [])
         ≡ first_passing ((not b, refusal.NotDeleted) ∷ (is_some (seen_entry (state_of s) q), refusal.NotDrained) ∷ [])
-    go true e =
+    by_state true e =
         let h = (queue_found is_deleted (state_of s) q e) in
         ap (λ (b : Bool). first_passing ((false, refusal.NotDeleted) ∷ (b, refusal.NotDrained) ∷ [])) (completions_seen s q h.0 world h.1 (served_reaped h.0.state (deleted_serves h.0.state h.2)))
-    go false e = refl
+    by_state false e = refl
 
 pub retire_refused : (s : Sides) (q : ℕ) (why : Refusal) (touched : List ℕ) (host : HostView) (pages : Pages) → IsWorld s → HostStep s.host s.pages (events.Retire q) (events.Refused why touched) host pages
     → StepsTo s (events.Retire q) (events.Refused why touched) (behind s (events.Retire q) (events.Refused why touched) host pages)
@@ -373,7 +373,7 @@ retire_ties s q host pages world t step =
     (left_bare s (events.Retire q) events.Accepted host pages world refl refl step step.1 ∙ ap bare is) (sym is)
     (retire_leads s world (OnTrue_at t world.tied) t q h.0 h.1 h.2 passed.1.0)
 
--- Each call of the host, with what the controller has of it, is a step of the machine, and leaves both sides tied.
+-- Each call of the host, with what the controller sees of it, is a step of the machine, and leaves both sides tied.
 
 pub hosts_stepped : hosts_step
 hosts_stepped s (events.Reap q) (events.Refused why touched) host pages world c f step over = reap_refused s q why touched host pages world step

@@ -40,7 +40,7 @@ use Rattle.page_memory.proofs.Lists.{found_is, all-to, all-found}
 
 -- How long a Write's bytes and the image stay: what a walk moves lies within the bytes that its entry asks for.
 
--- What is put within a list leaves it as long
+-- What is put within a list leaves its length the same
 
 pub length_put : (xs new : List ℕ) (at : ℕ) → at + length new ≤ length xs → length (take at xs ++ new ++ drop (at + length new) xs) ≡ length xs
 length_put xs new at fits = grind (arith, common_steps, fits)
@@ -71,11 +71,11 @@ unit_within s j place n offset u =
     (list_moves_along (memory_of s.memory) j.entry.sgl1 (direction_of_entry j.entry) (need_of_entry j.entry)) u
 
 pub page_few : (s : State) (place n : ℕ) → length (a.page_bytes s.memory place n) ≤ n
-page_few s place n = go (page_at s.memory (place / 4096))
+page_few s place n = by_page (page_at s.memory (place / 4096))
   where
-    go : (o : Option (List ℕ)) → length (option_map_or (λ bytes. take n (drop (place % 4096) bytes)) o []) ≤ n
-    go None = omega arith
-    go (Some bytes) = few (drop (place % 4096) bytes)
+    by_page : (o : Option (List ℕ)) → length (option_map_or (λ bytes. take n (drop (place % 4096) bytes)) o []) ≤ n
+    by_page None = omega arith
+    by_page (Some bytes) = few (drop (place % 4096) bytes)
       where
         few : (xs : List ℕ) → length (take n xs) ≤ n
         few xs = grind (arith, common_steps)
@@ -162,11 +162,11 @@ stay_after s e reply ok h = stay_untouched s e reply ok refl h
 
 pub stood_keeps_chains : (old : State) (event : Event) (reply : Reply) (new : State) (q cid : ℕ) (r : Record) (p : ℕ) → Stood old → old.trusted ≡ true → Step old event reply new
     → record_at old.host q cid ≡ Some r → is_submitted r.phase ≡ true → is_among r.chain_pages p ≡ true → page_at new.memory p ≡ page_at old.memory p
-stood_keeps_chains old event reply new q cid r p stood trusted step found sub chain = go (step_is old event reply new step trusted)
+stood_keeps_chains old event reply new q cid r p stood trusted step found sub chain = by_step (step_is old event reply new step trusted)
   where
-    go : (new ≡ old) ⊎ (IsProper event × Accepts old event reply × (new.memory ≡ (a.after old event reply).memory) × (new.trusted ≡ true → new ≡ a.after old event reply)) → page_at new.memory p ≡ page_at old.memory p
-    go (inl e) = ap (λ (s : State). page_at s.memory p) e
-    go (inr (proper, ok, e, all)) =
+    by_step : (new ≡ old) ⊎ (IsProper event × Accepts old event reply × (new.memory ≡ (a.after old event reply).memory) × (new.trusted ≡ true → new ≡ a.after old event reply)) → page_at new.memory p ≡ page_at old.memory p
+    by_step (inl e) = ap (λ (s : State). page_at s.memory p) e
+    by_step (inr (proper, ok, e, all)) =
         ap (λ (pages : Pages). page_at pages p) e
         ∙ (stay_after old event reply ok stood).chains r (in_found (is_at q cid) old.host.records r found) sub p chain
 
@@ -210,13 +210,13 @@ same_entry s e reply ok q cid entry jobs has = subst (AllByRecursion (λ j. j.q 
 
 pub stood_keeps_lists : (old new : State) (e : Event) (reply : Reply) (q cid : ℕ) (before after : Job) → Stood old → old.trusted ≡ true → Step old e reply new → new.trusted ≡ true
     → nat_lt 0 q ≡ true → job_at old q cid ≡ Some before → job_at new q cid ≡ Some after → (after.entry ≡ before.entry) × (course_of new after ≡ course_of old before)
-stood_keeps_lists old new e reply q cid before after stood was step trusted some found found' = go (step_is old e reply new step was)
+stood_keeps_lists old new e reply q cid before after stood was step trusted some found found' = by_step (step_is old e reply new step was)
   where
-    go : (new ≡ old) ⊎ (IsProper e × Accepts old e reply × (new.memory ≡ (a.after old e reply).memory) × (new.trusted ≡ true → new ≡ a.after old e reply)) → (after.entry ≡ before.entry) × (course_of new after ≡ course_of old before)
-    go (inl same) =
+    by_step : (new ≡ old) ⊎ (IsProper e × Accepts old e reply × (new.memory ≡ (a.after old e reply).memory) × (new.trusted ≡ true → new ≡ a.after old e reply)) → (after.entry ≡ before.entry) × (course_of new after ≡ course_of old before)
+    by_step (inl same) =
         let same' : before ≡ after = cc (found, sym (ap (λ (s : State). job_at s q cid) same) ∙ found') in
         (ap (λ (j : Job). j.entry) (sym same'), ap (λ (s : State). course_of s after) same ∙ ap (λ (j : Job). course_of old j) (sym same'))
-    go (inr (proper, ok, m, all)) =
+    by_step (inr (proper, ok, m, all)) =
         let is : new ≡ a.after old e reply = all trusted in
         let l = list_at old stood q cid before some found in
         let ids = and_parts (before.q == q) (before.entry.cid == cid) (found_is (is_job q cid) old.controller.jobs before found) in
@@ -254,18 +254,18 @@ of_command r p h = elim (cases_Bool (is_among r.chain_pages p)) [ inl e ↦ chai
 job_pages : (s : State) (rs : List Record) (r : Record) (q cid : ℕ) → find (is_at q cid) rs ≡ Some r → is_some (job_at s q cid) ≡ true → (p : ℕ) → is_among (pages_of r) p ≡ true
     → is_among (flat_map (λ r. if is_some (job_at s r.q r.cid) then pages_of r else []) rs) p ≡ true
 job_pages s [] r q cid e job p h = absurd cc
-job_pages s (x ∷ rs) r q cid e job p h = go (is_at q cid x) refl e (λ e'. job_pages s rs r q cid e' job p h)
+job_pages s (x ∷ rs) r q cid e job p h = by_match (is_at q cid x) refl e (λ e'. job_pages s rs r q cid e' job p h)
   where
-    go : (b : Bool) → is_at q cid x ≡ b → (if b then Some x else find (is_at q cid) rs) ≡ Some r
+    by_match : (b : Bool) → is_at q cid x ≡ b → (if b then Some x else find (is_at q cid) rs) ≡ Some r
         → (find (is_at q cid) rs ≡ Some r → is_among (flat_map (λ r. if is_some (job_at s r.q r.cid) then pages_of r else []) rs) p ≡ true)
         → is_among (flat_map (λ r. if is_some (job_at s r.q r.cid) then pages_of r else []) (x ∷ rs)) p ≡ true
-    go true t e ih =
+    by_match true t e ih =
         let same : x ≡ r = cc in
         let ids = and_parts (x.q == q) (x.cid == cid) t in
         let job' : is_some (job_at s x.q x.cid) ≡ true = rw (eqb-true x.q q ids.0, eqb-true x.cid cid ids.1) job in
         among_left p (if is_some (job_at s x.q x.cid) then pages_of x else []) (flat_map (λ r. if is_some (job_at s r.q r.cid) then pages_of r else []) rs)
         (subst (λ (b : Bool). is_among (if b then pages_of x else []) p ≡ true) (sym job') (subst (λ (y : Record). is_among (pages_of y) p ≡ true) (sym same) h))
-    go false t e ih = among_right p (if is_some (job_at s x.q x.cid) then pages_of x else []) (flat_map (λ r. if is_some (job_at s r.q r.cid) then pages_of r else []) rs) (ih e)
+    by_match false t e ih = among_right p (if is_some (job_at s x.q x.cid) then pages_of x else []) (flat_map (λ r. if is_some (job_at s r.q r.cid) then pages_of r else []) rs) (ih e)
 
 walk_stays : (s : State) (q cid : ℕ) (outcome : WalkState) (pages : List ℕ) → Accepts s (events.Walk q cid) (events.Walked outcome pages) → Stood s
     → (list_all (is_among (allowed s)) pages && list_all (is_among (pages_of_command s q cid)) pages) ≡ true
@@ -290,7 +290,7 @@ walk_stays s q cid outcome pages ok stood =
         ∙ act_touches w.list.command.chain_pages w.list.command.data_pages act
         (unit_in (on_pages w.list.command.chain_pages) (on_pages w.list.command.data_pages) (course_of s j) j.units_done act (course_in s j w.list) e)
 
--- each step from a state that stands so stays in what is allowed
+-- each step from a state that stands so stays within what is allowed
 pub stood_stays : (old new : State) (e : Event) (reply : Reply) → Stood old → old.trusted ≡ true → Step old e reply new → (stays_allowed old reply && stays_own old e reply) ≡ true
 stood_stays old new (events.Walk q cid) (events.Refused why touched) stood trusted step = grind arith
 stood_stays old new (events.Walk q cid) (events.Walked outcome pages) stood trusted step = walk_stays old q cid outcome pages (permitted _ old.trusted false trusted step.1) stood
@@ -325,11 +325,11 @@ whole_zeroed [] m whole = whole
 whole_zeroed (p ∷ pages) m whole = whole_zeroed pages (slice_set m p (Some zero_page)) (whole_set m p (Some zero_page) length-zero_page whole)
 
 whole_written : (m : Pages) (p at : ℕ) (new : List ℕ) → at + length new ≤ 4096 → AreWhole m → AreWhole (with_page_bytes m p at new)
-whole_written m p at new fits whole = whole_set m p (option_and_then (λ page. Some (with_bytes page at new)) (page_at m p)) (go (page_at m p) (whole p)) whole
+whole_written m p at new fits whole = whole_set m p (option_and_then (λ page. Some (with_bytes page at new)) (page_at m p)) (by_page (page_at m p) (whole p)) whole
   where
-    go : (o : Option (List ℕ)) → IfSome o (λ page. length page ≡ 4096) → IfSome (option_and_then (λ page. Some (with_bytes page at new)) o) (λ page. length page ≡ 4096)
-    go None h = tt
-    go (Some page) h = length_put page new at (omega (arith, fits, h)) ∙ h
+    by_page : (o : Option (List ℕ)) → IfSome o (λ page. length page ≡ 4096) → IfSome (option_and_then (λ page. Some (with_bytes page at new)) o) (λ page. length page ≡ 4096)
+    by_page None h = tt
+    by_page (Some page) h = length_put page new at (omega (arith, fits, h)) ∙ h
 
 -- Slots lie in one page
 
@@ -362,11 +362,11 @@ draft_length d entry proper e =
 -- What the host does
 
 whole-posted : (q : ℕ) (entry : SubEntry) (s : State) → length (submission_bytes entry) ≡ 64 → AreWhole s.memory → AreWhole (posted_bytes q entry s)
-whole-posted q entry s count whole = go (host_queue s q)
+whole-posted q entry s count whole = by_queue (host_queue s q)
   where
-    go : (o : Option HostQueue) → AreWhole (option_map_or (λ queue. with_page_bytes s.memory (slot_page queue.sq_pages 64 queue.ring.tail) (slot_offset 64 queue.ring.tail) (submission_bytes entry)) o s.memory)
-    go None = whole
-    go (Some queue) = whole_written s.memory (slot_page queue.sq_pages 64 queue.ring.tail) (slot_offset 64 queue.ring.tail) (submission_bytes entry) (omega (arith, count)) whole
+    by_queue : (o : Option HostQueue) → AreWhole (option_map_or (λ queue. with_page_bytes s.memory (slot_page queue.sq_pages 64 queue.ring.tail) (slot_offset 64 queue.ring.tail) (submission_bytes entry)) o s.memory)
+    by_queue None = whole
+    by_queue (Some queue) = whole_written s.memory (slot_page queue.sq_pages 64 queue.ring.tail) (slot_offset 64 queue.ring.tail) (submission_bytes entry) (omega (arith, count)) whole
 
 brought_pages : (xs ys : List (ℕ × List ℕ)) (m : Pages) → ArePages xs → ArePages ys → AreWhole m → AreWhole (with_pages (xs ++ ys) m)
 brought_pages xs ys m x y whole = whole_brought (xs ++ ys) m (All-append (λ page. IsPage page.1) xs ys x y) whole
@@ -374,13 +374,13 @@ brought_pages xs ys m x y whole = whole_brought (xs ++ ys) m (All-append (λ pag
 -- What the controller does
 
 whole-completed : (q cid : ℕ) (st : Status) (dw0 : ℕ) (s : State) → AreWhole s.memory → AreWhole (completed_bytes q cid st dw0 s)
-whole-completed q cid st dw0 s whole = go (host_queue s q)
+whole-completed q cid st dw0 s whole = by_queue (host_queue s q)
   where
-    go : (o : Option HostQueue)
+    by_queue : (o : Option HostQueue)
         → AreWhole (option_map_or (λ queue. with_page_bytes s.memory (slot_page queue.cq_pages 16 (post_slot s q)) (slot_offset 16 (post_slot s q))
         (completion_bytes (record { dw0 = dw0; sqhd = fetch_slot s q; sqid = q; cid = cid; phase = a.post_phase s q queue; status = st; hints = NONE }))) o s.memory)
-    go None = whole
-    go (Some queue) =
+    by_queue None = whole
+    by_queue (Some queue) =
         let entry : ComEntry = record { dw0 = dw0; sqhd = fetch_slot s q; sqid = q; cid = cid; phase = a.post_phase s q queue; status = st; hints = NONE } in
         whole_written s.memory (slot_page queue.cq_pages 16 (post_slot s q)) (slot_offset 16 (post_slot s q)) (completion_bytes entry) (omega (arith, (length-completion_bytes entry))) whole
 
@@ -487,13 +487,13 @@ untrusted_step old e reply new untrusted step whole =
     (λ c. whole_after old e reply step.0 (surely _ old.trusted (IsController e) c step.1) (λ is. absurd (true≢false (sym is ∙ c))) whole) step.2
 
 trusted_step : (old : State) (e : Event) (reply : Reply) (new : State) → old.trusted ≡ true → Stood old → Step old e reply new → AreWhole old.memory → AreWhole new.memory
-trusted_step old e reply new trusted stood step whole = go (step_is old e reply new step trusted)
+trusted_step old e reply new trusted stood step whole = by_step (step_is old e reply new step trusted)
   where
-    go : (new ≡ old) ⊎ (IsProper e × Accepts old e reply × (new.memory ≡ (a.after old e reply).memory) × (new.trusted ≡ true → new ≡ a.after old e reply)) → AreWhole new.memory
-    go (inl is) = subst (λ (s : State). AreWhole s.memory) (sym is) whole
-    go (inr (proper, ok, is, all)) = subst AreWhole (sym is) (whole_after old e reply proper ok (λ c. stood) whole)
+    by_step : (new ≡ old) ⊎ (IsProper e × Accepts old e reply × (new.memory ≡ (a.after old e reply).memory) × (new.trusted ≡ true → new ≡ a.after old e reply)) → AreWhole new.memory
+    by_step (inl is) = subst (λ (s : State). AreWhole s.memory) (sym is) whole
+    by_step (inr (proper, ok, is, all)) = subst AreWhole (sym is) (whole_after old e reply proper ok (λ c. stood) whole)
 
--- each step keeps pages whole; of a walk that writes this takes that its job stands
+-- each step keeps pages whole; for a walk that writes, this needs its job to stand
 pub stood_keeps_pages_whole : (old : State) (e : Event) (reply : Reply) (new : State) → (old.trusted ≡ true → Stood old) → Step old e reply new → AreWhole old.memory → AreWhole new.memory
 stood_keeps_pages_whole old e reply new stood step whole = elim (cases_Bool old.trusted) [
   | inl trusted ↦ trusted_step old e reply new trusted (stood trusted) step whole

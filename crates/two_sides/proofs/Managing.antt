@@ -84,7 +84,7 @@ jobs_by : (commands : List FetchedCommand) (f : FetchedCommand → FetchedComman
 jobs_by [] f g same = refl
 jobs_by (k ∷ commands) f g same = ap₂ (λ j js. j ∷ js) same.0 (jobs_by commands f g same.1)
 
--- What a verdict does, behind the entry that was taken
+-- What a verdict does, after the entry was taken
 
 abbrev pub acted : SubEntry → AdminVerdict → Sides → Sides
 acted e v t =
@@ -170,7 +170,7 @@ verdict_shares x n hs cs share = share
 
 pub verdict_stand : (v : AdminVerdict) (t : Sides) → Suits t v → ShareQueues t.host.entries zero t.host.host.queues t.controller.queues
     → AllQueuesStand t.host.entries (byte_at t.pages) zero t.host.host.queues t.controller.queues → AllQueuesStand t.host.entries (byte_at t.pages) zero t.host.host.queues (queues_after v t.controller.queues)
-verdict_stand v t suits share all = go v suits
+verdict_stand v t suits share all = by_verdict v suits
   where
     m : Memory
     m = byte_at t.pages
@@ -191,12 +191,12 @@ verdict_stand v t suits share all = go v suits
         → ((h : HostQueue) (c : ControllerQueue) → slice_get hs q ≡ Some h → slice_get cs q ≡ Some c → QueueStands n m q h c → QueueStands n m q h (g c)) → AllQueuesStand n m zero hs (change q g cs)
     changed q g here = stands_changed n m m q g hs cs here (λ i h c far e f stands. stands) all
 
-    go : (v : AdminVerdict) → Suits t v → AllQueuesStand n m zero hs (queues_after v cs)
-    go (StopQueue q) suits = changed q stopping (λ h c e f stands. stopping_stands n m q h c (suits h c e f) stands)
-    go (DropCompletion q) suits = changed q without_completion (λ h c e f stands. dropped_stands n m q h c (shared q h c e f) (suits h c e f) stands)
-    go (MakeCompletion q base) suits = changed q (with_completion base) (λ h c e f stands. completion_stands n m q base h c (shared q h c e f) (suits h c e f) stands)
-    go (MakeSubmission q base) suits = changed q (with_submission base) (λ h c e f stands. submission_stands n m q base h c (shared q h c e f) (suits h c e f) stands)
-    go x suits = all
+    by_verdict : (v : AdminVerdict) → Suits t v → AllQueuesStand n m zero hs (queues_after v cs)
+    by_verdict (StopQueue q) suits = changed q stopping (λ h c e f stands. stopping_stands n m q h c (suits h c e f) stands)
+    by_verdict (DropCompletion q) suits = changed q without_completion (λ h c e f stands. dropped_stands n m q h c (shared q h c e f) (suits h c e f) stands)
+    by_verdict (MakeCompletion q base) suits = changed q (with_completion base) (λ h c e f stands. completion_stands n m q base h c (shared q h c e f) (suits h c e f) stands)
+    by_verdict (MakeSubmission q base) suits = changed q (with_submission base) (λ h c e f stands. submission_stands n m q base h c (shared q h c e f) (suits h c e f) stands)
+    by_verdict x suits = all
 
 -- a walk that is stopped has nothing to stand for
 stopped_stands : (m : Memory) (done : ℕ) (st : Status) (work : Work) → WalkStands m done work → WalkStands m done (stopped_work st work)
@@ -233,7 +233,7 @@ taken_view pages cs commands q e =
 
 -- What is decided of an admin entry suits both sides, where nothing was forged.
 
--- the sides behind the entry that was taken of queue 0
+-- the sides after the entry of queue 0 was taken
 abbrev taken : Sides → Sides
 taken s = record s { controller = record s.controller { queues = change_contents zero with_taken s.controller.queues } }
 
@@ -258,7 +258,7 @@ entry_known s world t e next =
 
 pub suited : (s : Sides) → IsWorld s → s.trusted ≡ true → (e : SubEntry) → next_rung (state_of s) 0 ≡ Some e
     → Suits (taken s) (decision e (view_for (length s.pages) s.controller.queues s.controller.commands e))
-suited s world t e next = go (decision e view) (decides e view)
+suited s world t e next = by_verdict (decision e view) (decides e view)
   where
     cs : List ControllerQueue
     cs = s.controller.queues
@@ -303,17 +303,17 @@ suited s world t e next = go (decision e view) (decides e view)
         let granted = submission_granted s world e (entry_known s world t e next) few h c at is code (sym (there_seen c found) ∙ has) in
         record { unserved = granted.unserved; fresh = granted.fresh; half = granted.half; there = alike.there ∙ granted.there }
 
-    go : (v : AdminVerdict) → Decides e view v → Suits (taken s) v
-    go (Answer st dw0) d = tt
-    go (AbortJob q cid) d =
+    by_verdict : (v : AdminVerdict) → Decides e view v → Suits (taken s) v
+    by_verdict (Answer st dw0) d = tt
+    by_verdict (AbortJob q cid) d =
         subst (λ (q : ℕ). Suits (taken s) (AbortJob q cid)) (sym d.0)
         (subst (λ (cid : ℕ). Suits (taken s) (AbortJob (named_queue e) cid)) (sym d.1)
         (abort_open s.controller.commands (named_queue e) (named_command e) (world.sides.controller.commands.differ (named_queue e) (named_command e)) d.2))
-    go (StopQueue q) d = subst (λ (q : ℕ). Suits (taken s) (StopQueue q)) (sym d.0) (stops d.1)
-    go (DropCompletion q) d = drops q
-    go (MakeCompletion q base) d =
+    by_verdict (StopQueue q) d = subst (λ (q : ℕ). Suits (taken s) (StopQueue q)) (sym d.0) (stops d.1)
+    by_verdict (DropCompletion q) d = drops q
+    by_verdict (MakeCompletion q base) d =
         subst (λ (q : ℕ). Suits (taken s) (MakeCompletion q base)) (sym d.queue)
         (subst (λ (base : ℕ). Suits (taken s) (MakeCompletion (named_queue e) base)) (sym d.begins) (completes d.opcode d.free))
-    go (MakeSubmission q base) d =
+    by_verdict (MakeSubmission q base) d =
         subst (λ (q : ℕ). Suits (taken s) (MakeSubmission q base)) (sym d.queue)
         (subst (λ (base : ℕ). Suits (taken s) (MakeSubmission (named_queue e) base)) (sym d.begins) (submits d.opcode d.there))

@@ -247,7 +247,7 @@ pub record Roomy (s : State) : Type 0 where
 -- A page of a queue is in
 
 queue_page_in : (s : State) → Grounds s → (q p : ℕ) → is_among (pages_of_queue s q) p ≡ true → is_in s.memory p ≡ true
-queue_page_in s g q p h = go (host_queue s q) refl h
+queue_page_in s g q p h = by_queue (host_queue s q) refl h
   where
     below : (queue : HostQueue) → host_queue s q ≡ Some queue → 0 < in_queue p queue → p < length s.memory
     below queue e some = at (nat_lt p (length (in_store s.memory))) refl
@@ -256,9 +256,9 @@ queue_page_in s g q p h = go (host_queue s q) refl h
         at true l = omega (arith, ltb-true p (length (in_store s.memory)) l, length-in_store s.memory)
         at false l = absurd (omega (arith, ap one l, g.stands.0.owner p, in_at s.host.queues q queue e (in_queue p), some))
 
-    go : (o : Option HostQueue) → host_queue s q ≡ o → is_among (option_map_or (λ queue. queue.sq_pages ++ queue.cq_pages) o []) p ≡ true → is_in s.memory p ≡ true
-    go None e h = absurd (true≢false (sym h))
-    go (Some queue) e h =
+    by_queue : (o : Option HostQueue) → host_queue s q ≡ o → is_among (option_map_or (λ queue. queue.sq_pages ++ queue.cq_pages) o []) p ≡ true → is_in s.memory p ≡ true
+    by_queue None e h = absurd (true≢false (sym h))
+    by_queue (Some queue) e h =
         let some : 0 < in_queue p queue = omega (arith, held_once p (queue.sq_pages ++ queue.cq_pages) h, times-append p queue.sq_pages queue.cq_pages) in
         let l = below queue e some in
         let nobody : total (taken p) s.host.records ≡ 0 = omega (arith, owned_once _ p s.host g.stands.0, in_at s.host.queues q queue e (in_queue p), some, taken_le p s.host.records) in
@@ -270,14 +270,14 @@ few_sent : (s : State) → Roomy s → (q : ℕ) → sent_count q s.host.records
 few_sent s r q = omega (arith, sent_outstanding q s.host.records, few_outstanding q (s.entries - 1) s.host.records r.heads.ids r.stood.grounds.stands.0.once)
 
 not_full : (s : State) → Roomy s → (q : ℕ) → ((queue : HostQueue) → host_queue s q ≡ Some queue → is_live queue.state ≡ true) → is_some (host_queue s q) ≡ true → sent_count q s.host.records < s.entries - 1 → queue_full s q ≡ false
-not_full s r q live there room = go (host_queue s q) refl there
+not_full s r q live there room = by_queue (host_queue s q) refl there
   where
     far : (d n : ℕ) → d < n → (d == n) ≡ false
     far d n l = grind (arith, nat_tests)
 
-    go : (o : Option HostQueue) → host_queue s q ≡ o → is_some o ≡ true → option_map_or (λ queue. ring_is_full s.entries queue.ring.known_head queue.ring.tail) o true ≡ false
-    go None e h = absurd (true≢false (sym h))
-    go (Some queue) e h =
+    by_queue : (o : Option HostQueue) → host_queue s q ≡ o → is_some o ≡ true → option_map_or (λ queue. ring_is_full s.entries queue.ring.known_head queue.ring.tail) o true ≡ false
+    by_queue None e h = absurd (true≢false (sym h))
+    by_queue (Some queue) e h =
         far (distance s.entries queue.ring.known_head queue.ring.tail) (s.entries - 1) (omega (arith, room, (r.heads.behind q queue e (live_serves queue.state (live queue e))).known))
 
 zero_there : {A : Type 0} (xs : List A) (q : ℕ) → is_none (slice_get xs q) ≡ false → is_some (slice_get xs 0) ≡ true
@@ -302,7 +302,7 @@ no_conflicts s r q = elim (option_is (next_rung s q)) [ inl n ↦ rw n refl | in
 
 -- where a job is, its queue has room for its completion
 room_for_completion : (s : State) → Roomy s → (q cid : ℕ) → is_none (job_at s q cid) ≡ false → completions_full s q ≡ false
-room_for_completion s r q cid job = go (served_queue s q) refl
+room_for_completion s r q cid job = by_queue (served_queue s q) refl
   where
     some_job : (o : Option Job) → job_at s q cid ≡ o → is_none o ≡ false → 1 ≤ total (job_weight q (λ c. 1)) s.controller.jobs
     some_job None e h = absurd (true≢false h)
@@ -318,9 +318,9 @@ room_for_completion s r q cid job = go (served_queue s q) refl
     far : (d n : ℕ) → d < n → (d == n) ≡ false
     far d n l = grind (arith, nat_tests)
 
-    go : (o : Option ServedQueue) → served_queue s q ≡ o → option_map_or (λ at. length at.completions == s.entries - 1) o true ≡ false
-    go None e = absurd (true≢false (sym (ap (λ (o : Option ServedQueue). option_map_or (λ at. is_absent at.state) o true) e) ∙ there))
-    go (Some at) e =
+    by_queue : (o : Option ServedQueue) → served_queue s q ≡ o → option_map_or (λ at. length at.completions == s.entries - 1) o true ≡ false
+    by_queue None e = absurd (true≢false (sym (ap (λ (o : Option ServedQueue). option_map_or (λ at. is_absent at.state) o true) e) ∙ there))
+    by_queue (Some at) e =
         let answers : total (λ (an : PostedCompletion). 1) (completions_at s.controller.queues q) ≡ length at.completions = ap (λ (o : Option ServedQueue). total (λ (an : PostedCompletion). 1) (option_map_or (λ at. at.completions) o [])) e ∙ total_ones at.completions in
         far (length at.completions) (s.entries - 1) (omega (arith, answers, some_job (job_at s q cid) refl job, r.stood.places q (λ c. 1), few_sent s r q))
 

@@ -37,7 +37,7 @@ use Rattle.page_memory.proofs.Lists.{all-at}
 
 -- Where the controller stands in its rings: the machine tells it from its lists, where nothing was forged.
 
--- Lists of slots that are queue-here
+-- Lists of slots that are there
 
 one_more : {X : Type 0} (o : Option X) → IsSome o → (rest : List (Option X)) (many : ℕ) → length (present rest) ≡ many → length (present (o ∷ rest)) ≡ suc many
 one_more o e rest many count = grind arith
@@ -84,7 +84,7 @@ length-completions s q h c known has =
     ∙ all_present (completion_at (byte_at s.pages) c.controller.cq) c.controller.entries (distance c.controller.entries h.ring.head c.controller.ring.tail) h.ring.head (in_ring s q h c known).head
     (λ k lt. some_mapped _ _ (completion_there (byte_at s.pages) c.controller.cq s.host.entries k (known.completion_in has) (omega (arith, lt, known.placed.share.entries))))
 
--- so many completions has the machine of a completion queue that is queue-here
+-- how many completions the machine has of a completion queue that is there
 pub length-posted : (s : Sides) (q : ℕ) (h : HostQueue) (c : ControllerQueue) → IsKnown s q h c → c.cq_there ≡ true
     → length (served_queue_of (byte_at s.pages) h.ring c).completions ≡ distance c.controller.entries h.ring.head c.controller.ring.tail
 length-posted s q h c known queue-here =
@@ -175,7 +175,7 @@ seen_alone s world q h c e k has =
 no_completion : (m : Memory) (h : HostQueue) (c : ControllerQueue) → h.ring.head ≡ c.controller.ring.tail → completions_between m h.ring c.controller ≡ []
 no_completion m h c same = grind arith
 
--- the completion at the head, and those behind it
+-- the completion at the head, and those after it
 pub record HasCompletion (m : Memory) (h : HostQueue) (c : ControllerQueue) : Type 0 where
   pub entry : ComEntry
   pub front : front (completions_from m c.controller.cq c.controller.entries h.ring.head c.controller.ring.tail) ≡ Some entry
@@ -288,11 +288,11 @@ any-map f p (x ∷ xs) = ap (λ b. p (f x) || b) (any-map f p xs)
 
 none_named : {A B : Type 0} (named : A → Bool) (h : B → B) (g : A → B) (xs : List A) → count_by named xs ≡ 0 → ((a : A) → named a ≡ false → h (g a) ≡ g a) → map h (map g xs) ≡ map g xs
 none_named named h g [] none others = refl
-none_named {A = A} {B = B} named h g (x ∷ xs) none others = go (named x) refl (λ rest. none_named named h g xs rest others)
+none_named {A = A} {B = B} named h g (x ∷ xs) none others = by_name (named x) refl (λ rest. none_named named h g xs rest others)
   where
-    go : (b : Bool) → named x ≡ b → (count_by named xs ≡ 0 → map h (map g xs) ≡ map g xs) → map h (map g (x ∷ xs)) ≡ map g (x ∷ xs)
-    go true e later = absurd (omega (arith, none, count-cons named x xs, ap one e))
-    go false e later = ap₂ (λ (y : B) (ys : List B). y ∷ ys) (others x e) (later (omega (arith, none, count-cons named x xs)))
+    by_name : (b : Bool) → named x ≡ b → (count_by named xs ≡ 0 → map h (map g xs) ≡ map g xs) → map h (map g (x ∷ xs)) ≡ map g (x ∷ xs)
+    by_name true e later = absurd (omega (arith, none, count-cons named x xs, ap one e))
+    by_name false e later = ap₂ (λ (y : B) (ys : List B). y ∷ ys) (others x e) (later (omega (arith, none, count-cons named x xs)))
 
 -- a change of all that are named so is a change of the only one
 pub map_one : {A B : Type 0} (named : A → Bool) (h : B → B) (g : A → B) (xs : List A) (i : ℕ) (x y : A) → slice_get xs i ≡ Some x → named x ≡ true → count_by named xs < 2
@@ -302,11 +302,11 @@ map_one {A = A} {B = B} named h g (z ∷ xs) zero x y at is few e others =
     let same : z ≡ x = cc in
     let t : named z ≡ true = subst (λ (a : A). named a ≡ true) (sym same) is in
     ap₂ (λ (y : B) (ys : List B). y ∷ ys) (ap (λ (a : A). h (g a)) same ∙ e) (none_named named h g xs (omega (arith, few, count-cons named z xs, ap one t)) others)
-map_one {A = A} {B = B} named h g (z ∷ xs) (suc i) x y at is few e others = go (named z) refl (λ rest. map_one named h g xs i x y at is rest e others)
+map_one {A = A} {B = B} named h g (z ∷ xs) (suc i) x y at is few e others = by_name (named z) refl (λ rest. map_one named h g xs i x y at is rest e others)
   where
-    go : (b : Bool) → named z ≡ b → (count_by named xs < 2 → map h (map g xs) ≡ map g (slice_set xs i y)) → map h (map g (z ∷ xs)) ≡ map g (slice_set (z ∷ xs) (suc i) y)
-    go true t later = absurd (omega (arith, few, count-cons named z xs, ap one t, here_counted named xs i x at is))
-    go false t later = ap₂ (λ (y : B) (ys : List B). y ∷ ys) (others z t) (later (omega (arith, few, count-cons named z xs)))
+    by_name : (b : Bool) → named z ≡ b → (count_by named xs < 2 → map h (map g xs) ≡ map g (slice_set xs i y)) → map h (map g (z ∷ xs)) ≡ map g (slice_set (z ∷ xs) (suc i) y)
+    by_name true t later = absurd (omega (arith, few, count-cons named z xs, ap one t, here_counted named xs i x at is))
+    by_name false t later = ap₂ (λ (y : B) (ys : List B). y ∷ ys) (others z t) (later (omega (arith, few, count-cons named z xs)))
 
 -- The jobs of the machine
 
@@ -326,7 +326,7 @@ seen k job = job_of (with_work k (Io job))
 pub seen_is : (k : FetchedCommand) (job : JobContents) → k.work ≡ Io job → job_of k ≡ seen k job
 seen_is k job e = ap (λ (work : Work). job_of (with_work k work)) e
 
--- what is known of a command that is found: it fits, and its queue is queue-here
+-- what is known of a command that is found: it fits, and its queue is there
 pub record IsFound (s : Sides) (q cid : ℕ) (k : FetchedCommand) : Type 0 where
   pub named : is_command q cid k ≡ true
   pub its_queue : k.q ≡ q
@@ -388,7 +388,7 @@ pub known_live : (s : Sides) → IsWorld s → s.trusted ≡ true → (q : ℕ) 
     → is_live h.state ≡ true → is_absent c.state ≡ false
 known_live s world t q h c at queue-here is = absent_is s q h c false at queue-here (agreed_there (state_of s) q h (tied_of s world t).agree at is)
 
--- What a completion tells that is reaped: it counts among the completions
+-- What a reaped completion tells: it counts among the completions
 
 pub record Carries (s : State) (adm : AdminKind) (ok : Bool) : Type 0 where
   pub completed : (test : AdminKind → Bool) → one_counting (test adm && ok) ≤ completed_well test s.host.records (admin_completions s.controller.queues)
@@ -413,14 +413,14 @@ carried s q cid st e r adm t agree heard w =
 named_so : (k : ℕ) (b : Bool) → k < 65536 → b ≡ true → ((k % 65536 == k) && b) ≡ true
 named_so k b l is = ap (λ (x : Bool). x && b) (eq-eqb (k % 65536) k (omega (arith, l))) ∙ is
 
--- a completion queue that was deleted, or not made, is not queue-here
+-- a completion queue that was deleted, or not made, is not there
 pub freed_not_there : (s : State) (k : ℕ) (ok : Bool) → SidesAgree s → k < 65536 → ok ≡ true → Carries s (DeleteCq k) ok → has_completions_at s.controller.queues k ≡ false
 freed_not_there s k ok agree l good says = grind arith
 
 pub unmade_not_there : (s : State) (k n base : ℕ) (vector : Option ℕ) (ok : Bool) → SidesAgree s → k < 65536 → ok ≡ false → Carries s (CreateCq k n base vector) ok → has_completions_at s.controller.queues k ≡ false
 unmade_not_there s k n base vector ok agree l bad says = grind arith
 
--- a submission queue that was not made is absent, and one_counting that was made is not
+-- a submission queue that was not made is absent, and one that was made is not
 pub unmade_absent : (s : State) (k n base : ℕ) (ok : Bool) → SidesAgree s → k < 65536 → ok ≡ false → Carries s (CreateSq k n base) ok → is_absent_at s.controller.queues k ≡ true
 unmade_absent s k n base ok agree l bad says = grind arith
 
@@ -468,7 +468,7 @@ retires_half n m q h c served absent drained stands =
       granted = λ making absent. absurd (true≢false (sym making));
     }
 
--- its completion half is given back: queue-here is no completion queue
+-- its completion half is given back: there is no completion queue
 pub frees_half : (n : ℕ) (m : Memory) (q : ℕ) (h : HostQueue) (c : ControllerQueue) → c.cq_there ≡ false → QueueStands n m q h c → QueueStands n m q (a.gone h) c
 frees_half n m q h c none stands =
     record {

@@ -138,7 +138,7 @@ taken_off_load hs s q e hand past k w =
     let v : total (completions_weigh w) (completions_at (change q f qs) k) ≡ total (completions_weigh w) (completions_at qs k) = ap (total (completions_weigh w)) (list_same (λ at. at.completions) q f qs k (λ at. refl)) in
     omega (arith, v, count_less (past_at hs k) (total (entries_weigh w) (unfetched_at qs k)) (total (entries_weigh w) (unfetched_at (change q f qs) k)) (if q == k then w e.cid else 0) (none (q == k) refl) u)
 
--- a completion more
+-- one more completion
 completed_load : (hs : List HostQueue) (qs : List ServedQueue) (js : List Job) (q : ℕ) (an : PostedCompletion) (k : ℕ) (w : ℕ → ℕ)
     → load k w hs (change q (λ at. record at { completions = at.completions ++ an ∷ [] }) qs) js ≤ load k w hs qs js + (if q == k then w an.cid else 0)
 completed_load hs qs js q an k w =
@@ -147,7 +147,7 @@ completed_load hs qs js q an k w =
     let v = more_at (λ at. at.completions) (completions_weigh w) q f (w an.cid) qs k (λ at. omega (arith, total-append (completions_weigh w) at.completions (an ∷ []))) in
     omega (arith, u, v)
 
--- a job more
+-- one more job
 job_load : (hs : List HostQueue) (qs : List ServedQueue) (js : List Job) (j : Job) (k : ℕ) (w : ℕ → ℕ)
     → load k w hs qs (js ++ j ∷ []) ≡ load k w hs qs js + (if j.q == k then w j.entry.cid else 0)
 job_load hs qs js j k w = omega (arith, total-append (job_weight k w) js (j ∷ []))
@@ -206,20 +206,20 @@ lessens_walk hs q cid s =
 
 -- Completing
 
--- a job less
+-- one job less
 job_less : (k : ℕ) (w : ℕ → ℕ) (q cid : ℕ) (js : List Job) (j : Job) → find (is_job q cid) js ≡ Some j
     → total (job_weight k w) (filter (λ x. not (is_job q cid x)) js) + (if q == k then w cid else 0) ≤ total (job_weight k w) js
 job_less k w q cid [] j e = absurd cc
-job_less k w q cid (x ∷ js) j e = go (is_job q cid x) refl e (job_less k w q cid js j)
+job_less k w q cid (x ∷ js) j e = by_match (is_job q cid x) refl e (job_less k w q cid js j)
   where
-    go : (b : Bool) → is_job q cid x ≡ b → (if b then Some x else find (is_job q cid) js) ≡ Some j
+    by_match : (b : Bool) → is_job q cid x ≡ b → (if b then Some x else find (is_job q cid) js) ≡ Some j
         → (find (is_job q cid) js ≡ Some j → total (job_weight k w) (filter (λ x. not (is_job q cid x)) js) + (if q == k then w cid else 0) ≤ total (job_weight k w) js)
         → total (job_weight k w) (if not b then x ∷ filter (λ x. not (is_job q cid x)) js else filter (λ x. not (is_job q cid x)) js) + (if q == k then w cid else 0) ≤ job_weight k w x + total (job_weight k w) js
-    go true t e ih =
+    by_match true t e ih =
         let at = and_parts (x.q == q) (x.entry.cid == cid) t in
         let mine : job_weight k w x ≡ (if q == k then w cid else 0) = rw (eqb-true x.q q at.0, eqb-true x.entry.cid cid at.1) refl in
         omega (arith, mine, total-filter (job_weight k w) (λ x. not (is_job q cid x)) js)
-    go false t e ih = omega (arith, ih e)
+    by_match false t e ih = omega (arith, ih e)
 
 pub lessens_complete : (hs : List HostQueue) (q cid : ℕ) (s : State) → Lessens hs s.controller.queues s.controller.jobs (a.after_complete q cid s).controller.queues (a.after_complete q cid s).controller.jobs
 lessens_complete hs q cid s k w =
@@ -233,7 +233,7 @@ lessens_complete hs q cid s k w =
 
 -- What the host does
 
--- an entry behind the others of a queue
+-- an entry after the others of a queue
 pub posted_load : (hs : List HostQueue) (qs : List ServedQueue) (js : List Job) (q : ℕ) (entry : SubEntry) (k : ℕ) (w : ℕ → ℕ)
     → load k w hs (change q (λ at. record at { unfetched = at.unfetched ++ entry ∷ [] }) qs) js ≤ load k w hs qs js + (if q == k then w entry.cid else 0)
 posted_load hs qs js q entry k w =
@@ -312,15 +312,15 @@ held_not ph e = grind arith
 -- the completion that is reaped
 pub reaped_completion : (s : State) (q cid : ℕ) → s.trusted ≡ true → named (reaped s q) ≡ Some cid
     → (an : PostedCompletion) × (option_and_then (λ queue. front_completion queue.completions) (served_queue s q) ≡ Some an) × (an.cid ≡ cid) × (seen_entry s q ≡ Some (entry_of q an))
-reaped_completion s q cid t h = go (reaped s q) refl h
+reaped_completion s q cid t h = by_outcome (reaped s q) refl h
   where
     of : (st : Status) (what : Reaped) → ReapTells s q cid st what → (an : PostedCompletion) × (option_and_then (λ queue. front_completion queue.completions) (served_queue s q) ≡ Some an) × (an.cid ≡ cid) × (seen_entry s q ≡ Some (entry_of q an))
     of st what tells = let x = heard_of s q cid st what tells in let an = completion_heard s q cid st x.0 x.1 t x.2 in (an.completion, an.first, an.its_id, x.2.seen ∙ ap Some an.is)
 
-    go : (what : Reaped) → reaped s q ≡ what → named what ≡ Some cid → (an : PostedCompletion) × (option_and_then (λ queue. front_completion queue.completions) (served_queue s q) ≡ Some an) × (an.cid ≡ cid) × (seen_entry s q ≡ Some (entry_of q an))
-    go (outcome.Done c st) is n = of st (outcome.Done c st) (record { is = sym is; names = n; status = refl })
-    go (outcome.AdminDone c st dw0) is n = of st (outcome.AdminDone c st dw0) (record { is = sym is; names = n; status = refl })
-    go x is n = absurd cc
+    by_outcome : (what : Reaped) → reaped s q ≡ what → named what ≡ Some cid → (an : PostedCompletion) × (option_and_then (λ queue. front_completion queue.completions) (served_queue s q) ≡ Some an) × (an.cid ≡ cid) × (seen_entry s q ≡ Some (entry_of q an))
+    by_outcome (outcome.Done c st) is n = of st (outcome.Done c st) (record { is = sym is; names = n; status = refl })
+    by_outcome (outcome.AdminDone c st dw0) is n = of st (outcome.AdminDone c st dw0) (record { is = sym is; names = n; status = refl })
+    by_outcome x is n = absurd cc
 
 consumed_past : (q : ℕ) (g : HostRing → HostRing) (hs : List HostQueue) (k : ℕ) → past_at hs k ≡ true → past_at (change q (λ x. record x { ring = g x.ring }) hs) k ≡ true
 consumed_past q g hs k p = past_same q (λ x. record x { ring = g x.ring }) hs k (λ x e. refl) ∙ p
@@ -441,17 +441,17 @@ by_controller s e reply c less h =
 
 -- a draft's entry has its identifier
 pub entry_cid : (d : DraftContents) → (draft_entry d).cid ≡ d.cid
-entry_cid d = go d.request.kind
+entry_cid d = by_kind d.request.kind
   where
-    go : (kind : Kind) → (draft_entry_of kind d.cid d.request (spelling (draft_first d)) (numbers_of d.data_pages)).cid ≡ d.cid
-    go Read = refl
-    go Write = refl
-    go Compare = refl
-    go WriteZeroes = refl
-    go Verify = refl
-    go Flush = refl
-    go Deallocate = refl
-    go (Admin command) = refl
+    by_kind : (kind : Kind) → (draft_entry_of kind d.cid d.request (spelling (draft_first d)) (numbers_of d.data_pages)).cid ≡ d.cid
+    by_kind Read = refl
+    by_kind Write = refl
+    by_kind Compare = refl
+    by_kind WriteZeroes = refl
+    by_kind Verify = refl
+    by_kind Flush = refl
+    by_kind Deallocate = refl
+    by_kind (Admin command) = refl
 
 places_host : (s : State) (e : Event) (reply : Reply) → IsProper e → Accepts s e reply → IsController e ≡ false → s.trusted ≡ true → Grounds s → PlacesIn s → PlacesIn (a.after s e reply)
 places_host s e reply pr ok c t g h =

@@ -123,14 +123,14 @@ pub trust_restored : resets_restore_trust
 trust_restored old reply new step = ap (λ (s : State). s.trusted) (reset_leaves old reply new step)
 
 pub trusted_or_reset : (old : State) (e : Event) (reply : Reply) (new : State) → Step old e reply new → new.trusted ≡ true → (old.trusted || resets e) ≡ true
-trusted_or_reset old e reply new step t = go (resets e) refl
+trusted_or_reset old e reply new step t = by_reset (resets e) refl
   where
-    go : (b : Bool) → resets e ≡ b → (old.trusted || b) ≡ true
-    go true other = or_true old.trusted
+    by_reset : (b : Bool) → resets e ≡ b → (old.trusted || b) ≡ true
+    by_reset true other = or_true old.trusted
       where
         or_true : (b : Bool) → (b || true) ≡ true
         or_true b = grind arith
-    go false other = ap (λ (b : Bool). b || false) (trusted_before old e reply new step other t)
+    by_reset false other = ap (λ (b : Bool). b || false) (trusted_before old e reply new step other t)
 
 -- a step between trusted states forges nothing
 pub unforged_step : (old : State) (e : Event) (reply : Reply) (new : State) → Step old e reply new → old.trusted ≡ true → new.trusted ≡ true → forges_by e reply ≡ false
@@ -147,10 +147,10 @@ came_trusted (m ∷ made) s end (is, mid, step, rest) none t =
 
 pub ends_unforged : trusted_ends_are_unforged
 ends_unforged [] s end steps t = refl
-ends_unforged (m ∷ made) s end steps t = go (ends_unforged made steps.1 end steps.3 t) (list_any is_reset made) (is_reset m) refl refl
+ends_unforged (m ∷ made) s end steps t = stays_unforged (ends_unforged made steps.1 end steps.3 t) (list_any is_reset made) (is_reset m) refl refl
   where
-    go : not (list_any is_forgery (since_reset made)) ≡ true → (b c : Bool) → list_any is_reset made ≡ b → is_reset m ≡ c
+    stays_unforged : not (list_any is_forgery (since_reset made)) ≡ true → (b c : Bool) → list_any is_reset made ≡ b → is_reset m ≡ c
         → not (list_any is_forgery (if b then since_reset made else if c then made else m ∷ made)) ≡ true
-    go ih true c rest first = ih
-    go ih false true rest first = ap not (came_trusted made steps.1 end steps.3 rest t).1
-    go ih false false rest first = ap not (came_trusted (m ∷ made) s end steps (ap (λ (b : Bool). b || list_any is_reset made) first ∙ rest) t).1
+    stays_unforged ih true c rest first = ih
+    stays_unforged ih false true rest first = ap not (came_trusted made steps.1 end steps.3 rest t).1
+    stays_unforged ih false false rest first = ap not (came_trusted (m ∷ made) s end steps (ap (λ (b : Bool). b || list_any is_reset made) first ∙ rest) t).1

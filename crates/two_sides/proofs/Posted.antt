@@ -71,11 +71,11 @@ pointer_is_bytes address =
 
 -- a command without a list has zeros there
 pointer_in_bytes : (kind : Kind) (sgl1 : List ℕ) → IsBytes 16 sgl1 → IsBytes 16 (pointer_of kind sgl1)
-pointer_in_bytes kind sgl1 bytes = go (has_list kind)
+pointer_in_bytes kind sgl1 bytes = by_list (has_list kind)
   where
-    go : (list : Bool) → IsBytes 16 (if list then sgl1 else replicate 16 0)
-    go true = bytes
-    go false = descriptor_is_bytes 0 0 0 (omega arith)
+    by_list : (list : Bool) → IsBytes 16 (if list then sgl1 else replicate 16 0)
+    by_list true = bytes
+    by_list false = descriptor_is_bytes 0 0 0 (omega arith)
 
 -- The entries
 
@@ -129,9 +129,9 @@ admin_typed kind cid id named qualified =
       fits = record { fuse = omega arith; psdt = omega arith };
     }
 
--- The host posts an entry over a memory in which each half stands as it did: the machine's queues have it, and the queues stand behind it.
+-- The host posts an entry over a memory in which each half stands as it did: the machine's queues have it, and the queues stand after it.
 
--- a queue whose tail moved on, and the machine's with an entry more
+-- a queue whose tail moved on, and the machine's with one more entry
 abbrev pub tail_moved : ℕ → HostQueue → HostQueue
 tail_moved n queue = record queue { ring = next_tail n queue.ring }
 
@@ -343,7 +343,7 @@ module _ (s : Sides) (mid : Pages) (q : ℕ) (h : HostQueue) (c : ControllerQueu
 
 -- The controller takes the entry at its head: the machine's list is shorter by that entry, and the rings stand.
 
--- Positions behind a take
+-- Positions after a take
 
 not_last : (n known head tail : ℕ) → known < n → head < n → tail < n → is_in_range n known tail head ≡ true → head ≢ tail → distance n known head + 1 < n
 not_last n known head tail k h t inside some = grind arith
@@ -361,7 +361,7 @@ heads_on n from to (e ∷ es) f t last h =
 
 -- The queue itself
 
--- A queue of which the controller can take an entry, where nothing was forged
+-- A queue from which the controller can take an entry, where nothing was forged
 pub record CanTake (s : Sides) (q : ℕ) (h : HostQueue) (c : ControllerQueue) : Type 0 where
   pub known : IsKnown s q h c
   pub live : is_live c.state ≡ true
@@ -382,12 +382,12 @@ some_left s q h c can =
 pub entry_there : (s : Sides) (q : ℕ) (h : HostQueue) (c : ControllerQueue) → CanTake s q h c → (e : SubEntry) × (entry_at (byte_at s.pages) c.controller.sq c.controller.ring.head ≡ Some e)
 entry_there s q h c can =
     let placed = can.known.placed in
-    go (submission_slot (byte_at s.pages) c.controller.sq c.controller.ring.head) refl
+    by_slot (submission_slot (byte_at s.pages) c.controller.sq c.controller.ring.head) refl
     (submission_there (byte_at s.pages) c.controller.sq s.host.entries c.controller.ring.head (can.known.submission_in (not_absent c.state can.live)) (omega (arith, placed.share.entries, placed.share.side.head)))
   where
-    go : (o : Option (List ℕ)) → submission_slot (byte_at s.pages) c.controller.sq c.controller.ring.head ≡ o → IsSome o → (e : SubEntry) × (entry_at (byte_at s.pages) c.controller.sq c.controller.ring.head ≡ Some e)
-    go None e some = cc
-    go (Some bytes) e some = (submission_of bytes, ap (option_map submission_of) e)
+    by_slot : (o : Option (List ℕ)) → submission_slot (byte_at s.pages) c.controller.sq c.controller.ring.head ≡ o → IsSome o → (e : SubEntry) × (entry_at (byte_at s.pages) c.controller.sq c.controller.ring.head ≡ Some e)
+    by_slot None e some = cc
+    by_slot (Some bytes) e some = (submission_of bytes, ap (option_map submission_of) e)
 
 pub entries_first : (s : Sides) (q : ℕ) (h : HostQueue) (c : ControllerQueue) (e : SubEntry) → CanTake s q h c → entry_at (byte_at s.pages) c.controller.sq c.controller.ring.head ≡ Some e
     → unfetched_between (byte_at s.pages) h.ring c.controller ≡ e ∷ unfetched_between (byte_at s.pages) h.ring (with_taken c).controller

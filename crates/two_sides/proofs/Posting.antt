@@ -81,7 +81,7 @@ record StaysAlike (n : ℕ) (m : Memory) (cs : List ControllerQueue) (hs hs' : L
   lists : served_queues_of m hs' cs ≡ served_queues_of m hs cs
   stands : AllQueuesStand n m zero hs cs → AllQueuesStand n m zero hs' cs
 
--- a call that posts an entry, of which the controller has nothing
+-- a call that posts an entry, of which the controller sees nothing
 ties : (s : Sides) (e : Event) (reply : Reply) (host : HostView) (pages mid : Pages) (q : ℕ) (h : HostQueue) (c : ControllerQueue) (entry : SubEntry) (hs : List HostQueue)
     → CanPost s mid q h c entry → SparesSubmitted s mid → Permits (state_of s) e reply → heard e reply host s.controller ≡ s.controller
     → LeavesByHost (alone s.host s.pages) (after (alone s.host s.pages) e reply) (alone host pages)
@@ -125,7 +125,7 @@ brought_whole s d world proper =
     (joined-pages d.data_pages d.chain_pages proper.data_pages proper.chain_pages)) world.sides.over.pool).whole
 
 module _ (s : Sides) (d : DraftContents) (r : Record) (world : IsWorld s) (is : IsOf (state_of s) is_drafted d.request d.q d.cid d.data_pages d.chain_pages r) where
-  -- where its record stands
+  -- the index of its record
   abbrev place : ℕ
   place = position_or_len (is_at d.q d.cid) s.host.host.records
 
@@ -378,7 +378,7 @@ half_is_granted s world first run entry h x c can some =
     (λ k l. elsewhere s mid 0 h c entry can (first + k) (free_apart_from_queues s world 0 h (first + k) can.at (free s world count first run (first + k) (among-from first count k l))).0
     ∙ granted_zero s world count first run k l))
 
--- the double word of interrupts on a vector of 16 bits is one
+-- the Dword of interrupts on a vector of 16 bits is one
 vector_fits : (q n base : ℕ) (vector : Option ℕ) → IfSome vector (λ v. v < 2 ^ 16) → qualified_by (CreateCq q n base vector) < 2 ^ 32
 vector_fits q n base None fits = omega arith
 vector_fits q n base (Some v) fits = omega (arith, fits)

@@ -53,11 +53,11 @@ in_at (y ∷ xs) (suc k) x e = in_rest x y xs (in_at xs k x e)
 
 pub in_found : {A : Type 0} (test : A → Bool) (xs : List A) (x : A) → find test xs ≡ Some x → In x xs
 in_found test [] x e = absurd cc
-in_found test (y ∷ xs) x e = go (test y) e (in_found test xs x)
+in_found test (y ∷ xs) x e = by_test (test y) e (in_found test xs x)
   where
-    go : (b : Bool) → (if b then Some y else find test xs) ≡ Some x → (find test xs ≡ Some x → In x xs) → In x (y ∷ xs)
-    go true e ih = let same : y ≡ x = cc in subst (λ z. In z (y ∷ xs)) same (in_first y xs)
-    go false e ih = in_rest x y xs (ih e)
+    by_test : (b : Bool) → (if b then Some y else find test xs) ≡ Some x → (find test xs ≡ Some x → In x xs) → In x (y ∷ xs)
+    by_test true e ih = let same : y ≡ x = cc in subst (λ z. In z (y ∷ xs)) same (in_first y xs)
+    by_test false e ih = in_rest x y xs (ih e)
 
 -- each member by its index
 pub all_indexed : {A : Type 0} (P Q : A → Type 0) (xs : List A) → ((k : ℕ) (x : A) → slice_get xs k ≡ Some x → P x → Q x) → AllByRecursion P xs → AllByRecursion Q xs
@@ -88,7 +88,7 @@ all_map P Q f (x ∷ xs) step all = (step x all.0, all_map P Q f xs step all.1)
 -- where one passes a test, it is the only one
 pub only_found : {A : Type 0} (test : A → Bool) (xs : List A) (x0 : A) → find test xs ≡ Some x0 → total (λ x. one (test x)) xs < 2 → AllByRecursion (λ x. test x ≡ true → x ≡ x0) xs
 only_found {A} test [] x0 e once = tt
-only_found {A} test (r ∷ rs) x0 e once = go (test r) refl e once (λ e' o. only_found test rs x0 e' o)
+only_found {A} test (r ∷ rs) x0 e once = by_test (test r) refl e once (λ e' o. only_found test rs x0 e' o)
   where
     none : (rs : List A) → total (λ x. one (test x)) rs ≡ 0 → AllByRecursion (λ x. test x ≡ true → x ≡ x0) rs
     none [] n = tt
@@ -97,10 +97,10 @@ only_found {A} test (r ∷ rs) x0 e once = go (test r) refl e once (λ e' o. onl
         some : (x : A) → test x ≡ true → one (test x) + total (λ x. one (test x)) rs ≡ 0 → ⊥
         some x t n = let n' : one true + total (λ x. one (test x)) rs ≡ 0 = rw t at n in omega (arith, n')
 
-    go : (b : Bool) → test r ≡ b → (if b then Some r else find test rs) ≡ Some x0 → one b + total (λ x. one (test x)) rs < 2
+    by_test : (b : Bool) → test r ≡ b → (if b then Some r else find test rs) ≡ Some x0 → one b + total (λ x. one (test x)) rs < 2
         → (find test rs ≡ Some x0 → total (λ x. one (test x)) rs < 2 → AllByRecursion (λ x. test x ≡ true → x ≡ x0) rs) → AllByRecursion (λ x. test x ≡ true → x ≡ x0) (r ∷ rs)
-    go true t e once ih = ((λ z. some_is e), none rs (omega (arith, once)))
-    go false t e once ih = ((λ z. absurd (true≢false (sym z ∙ t))), ih e (omega (arith, once)))
+    by_test true t e once ih = ((λ z. some_is e), none rs (omega (arith, once)))
+    by_test false t e once ih = ((λ z. absurd (true≢false (sym z ∙ t))), ih e (omega (arith, once)))
 
 -- where its identifier is outstanding once, a record is the only one
 pub is_found : (q cid : ℕ) (rs : List Record) (r0 : Record) → find (is_at q cid) rs ≡ Some r0 → total (here q cid) rs < 2 → AllByRecursion (λ r. is_at q cid r ≡ true → r ≡ r0) rs
@@ -108,20 +108,20 @@ is_found q cid rs r0 e once = only_found (is_at q cid) rs r0 e once
 
 pub all_with : (P Q : Record → Type 0) (q cid : ℕ) (f : Record → Record) (rs : List Record) (r0 : Record) → find (is_at q cid) rs ≡ Some r0 → total (here q cid) rs < 2
     → ((r : Record) → is_at q cid r ≡ false → P r → Q r) → (P r0 → Q (f r0)) → AllByRecursion P rs → AllByRecursion Q (with_record q cid f rs)
-all_with P Q q cid f rs r0 e once others own all = go rs (is_found q cid rs r0 e once) all
+all_with P Q q cid f rs r0 e once others own all = along_records rs (is_found q cid rs r0 e once) all
   where
     one_of : (r : Record) (b : Bool) → is_at q cid r ≡ b → (is_at q cid r ≡ true → r ≡ r0) → P r → Q (if b then f r else r)
     one_of r true t same p = subst (λ x. Q (f x)) (sym (same t)) (own (subst P (same t) p))
     one_of r false t same p = others r t p
 
-    go : (xs : List Record) → AllByRecursion (λ r. is_at q cid r ≡ true → r ≡ r0) xs → AllByRecursion P xs → AllByRecursion Q (with_record q cid f xs)
-    go [] same all = tt
-    go (x ∷ xs) same all = (one_of x (is_at q cid x) refl same.0 all.0, go xs same.1 all.1)
+    along_records : (xs : List Record) → AllByRecursion (λ r. is_at q cid r ≡ true → r ≡ r0) xs → AllByRecursion P xs → AllByRecursion Q (with_record q cid f xs)
+    along_records [] same all = tt
+    along_records (x ∷ xs) same all = (one_of x (is_at q cid x) refl same.0 all.0, along_records xs same.1 all.1)
 
 -- where a submitted command of an identifier counts, its record is found
 pub sent_found : (q cid : ℕ) (rs : List Record) → 0 < total (sent q (λ c. one (c == cid))) rs → total (here q cid) rs < 2 → (r : Record) × (find (is_at q cid) rs ≡ Some r) × (is_submitted r.phase ≡ true)
 sent_found q cid [] some once = absurd (omega (arith, some))
-sent_found q cid (r ∷ rs) some once = go (r.q == q) (r.cid == cid) (is_submitted r.phase) refl some once (λ s o. sent_found q cid rs s o)
+sent_found q cid (r ∷ rs) some once = record_found (r.q == q) (r.cid == cid) (is_submitted r.phase) refl some once (λ s o. sent_found q cid rs s o)
   where
     less : (rs : List Record) → total (sent q (λ c. one (c == cid))) rs ≤ total (here q cid) rs
     less [] = omega arith
@@ -130,16 +130,16 @@ sent_found q cid (r ∷ rs) some once = go (r.q == q) (r.cid == cid) (is_submitt
         each : (a b c : Bool) → (if a && b then one c else 0) ≤ one (a && c)
         each a b c = grind arith
 
-    go : (a b c : Bool) → is_submitted r.phase ≡ c → 0 < (if a && c then one b else 0) + total (sent q (λ c. one (c == cid))) rs → one (a && b) + total (here q cid) rs < 2
+    record_found : (a b c : Bool) → is_submitted r.phase ≡ c → 0 < (if a && c then one b else 0) + total (sent q (λ c. one (c == cid))) rs → one (a && b) + total (here q cid) rs < 2
         → (0 < total (sent q (λ c. one (c == cid))) rs → total (here q cid) rs < 2 → (x : Record) × (find (is_at q cid) rs ≡ Some x) × (is_submitted x.phase ≡ true))
         → (x : Record) × ((if a && b then Some r else find (is_at q cid) rs) ≡ Some x) × (is_submitted x.phase ≡ true)
-    go true true true e some once ih = (r, refl, e)
-    go true true false e some once ih = absurd (omega (arith, some, once, less rs))
-    go true false c e some once ih = ih (omega (arith, some, nothing c)) (omega (arith, once))
+    record_found true true true e some once ih = (r, refl, e)
+    record_found true true false e some once ih = absurd (omega (arith, some, once, less rs))
+    record_found true false c e some once ih = ih (omega (arith, some, nothing c)) (omega (arith, once))
       where
         nothing : (c : Bool) → (if true && c then one false else 0) ≡ 0
         nothing c = grind arith
-    go false b c e some once ih = ih (omega (arith, some)) (omega (arith, once))
+    record_found false b c e some once ih = ih (omega (arith, some)) (omega (arith, once))
 
 -- Every event of the host leaves each creation that is outstanding with the name of the half that was granted for it.
 
@@ -196,8 +196,8 @@ none_after of test rs k f hs x r h at quiet within is = omega (arith, within (aw
 
 lies_at : (n : ℕ) (half : Half) (first : ℕ) → LieAt n half (a.base_of (pages_from first (half_pages n half))) (pages_from first (half_pages n half))
 lies_at n half first =
-    let go : (count : ℕ) → pages_from first count ≡ pages_from (slice_index (pages_from first count) 0) count = λ count. grind arith in
-    record { first = slice_index (pages_from first (half_pages n half)) 0; begins = refl; consecutive = go (half_pages n half) }
+    let begins_at_first : (count : ℕ) → pages_from first count ≡ pages_from (slice_index (pages_from first count) 0) count = λ count. grind arith in
+    record { first = slice_index (pages_from first (half_pages n half)) 0; begins = refl; consecutive = begins_at_first (half_pages n half) }
 
 -- Each event
 
@@ -290,11 +290,11 @@ names_event s e reply ok c holds h =
     names_io (Management adm) io = absurd (true≢false (sym io))
 
     with : (q cid : ℕ) (f : Record → Record) → ((r : Record) → Names s.entries s.host.queues r → Names s.entries s.host.queues (f r)) → NamesAll s.entries s.host.queues (with_record q cid f s.host.records)
-    with q cid f each = all_map (Names s.entries s.host.queues) (Names s.entries s.host.queues) (λ r. if is_at q cid r then f r else r) s.host.records (λ r p. go r (is_at q cid r) p) h
+    with q cid f each = all_map (Names s.entries s.host.queues) (Names s.entries s.host.queues) (λ r. if is_at q cid r then f r else r) s.host.records (λ r p. by_match r (is_at q cid r) p) h
       where
-        go : (r : Record) (b : Bool) → Names s.entries s.host.queues r → Names s.entries s.host.queues (if b then f r else r)
-        go r true p = each r p
-        go r false p = p
+        by_match : (r : Record) (b : Bool) → Names s.entries s.host.queues r → Names s.entries s.host.queues (if b then f r else r)
+        by_match r true p = each r p
+        by_match r false p = p
 
     lose : (r : Record) (b : Bool) → Names s.entries s.host.queues r → Names s.entries s.host.queues (if b then a.aborted r else r)
     lose r true p = p
@@ -308,11 +308,11 @@ ProvidedS s = (IsHostProvided (host_part s).entries (host_part s).segment (host_
 -- Records that change
 
 all_with_provided : (n g q cid : ℕ) (f : Record → Record) → ((r : Record) → IsProvided n g r → IsProvided n g (f r)) → (rs : List Record) → AllByRecursion (IsProvided n g) rs → AllByRecursion (IsProvided n g) (with_record q cid f rs)
-all_with_provided n g q cid f each rs all = all_map (IsProvided n g) (IsProvided n g) (λ r. if is_at q cid r then f r else r) rs (λ r h. go r (is_at q cid r) h) all
+all_with_provided n g q cid f each rs all = all_map (IsProvided n g) (IsProvided n g) (λ r. if is_at q cid r then f r else r) rs (λ r h. by_match r (is_at q cid r) h) all
   where
-    go : (r : Record) (b : Bool) → IsProvided n g r → IsProvided n g (if b then f r else r)
-    go r true h = each r h
-    go r false h = h
+    by_match : (r : Record) (b : Bool) → IsProvided n g r → IsProvided n g (if b then f r else r)
+    by_match r true h = each r h
+    by_match r false h = h
 
 -- Queues that change
 
@@ -336,7 +336,7 @@ noted : (n : ℕ) (x : HostQueue) (b : Bool) → x.state ≡ Deleting false → 
 noted n x true is h = in_state_of n x (Deleting false) (Deleting true) is refl refl (λ m. m) h
 noted n x false is h = in_state_of n x (Deleting false) Live is refl refl (λ m. m) h
 
--- a half less, of a queue that has the other alone or none
+-- one half less, of a queue that has only the other or none
 without_sq : (n : ℕ) (x : HostQueue) (st : HostState) → has_sq st ≡ false → has_cq x.state ≡ has_cq st → (is_making st ≡ true → is_making x.state ≡ true) → HasHalves n x → HasHalves n (record x { state = st; sq_pages = [] })
 without_sq n x st sq cq making h = record {
   submission = (0, sym (ap (λ b. pages_from 0 (if b then half_pages n Submission else 0)) sq));

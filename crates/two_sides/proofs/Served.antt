@@ -83,18 +83,18 @@ entry_need cid r sgl1 good size moves =
 counted_parts : (kind : Kind) → has_list kind ≡ true → (pieces : List Piece) (pages : List ℕ) → data_count pieces ≤ length pages
     → counted_in (direction_of kind) (parts_of pieces pages) ≡ counted_lengths kind pieces
 counted_parts kind list [] pages few = refl
-counted_parts kind list (Bucket len ∷ pieces) pages few = go kind list (counted_parts kind list pieces pages (grind (arith, common_steps)))
+counted_parts kind list (Bucket len ∷ pieces) pages few = by_kind kind list (counted_parts kind list pieces pages (grind (arith, common_steps)))
   where
-    go : (k : Kind) → has_list k ≡ true → counted_in (direction_of k) (parts_of pieces pages) ≡ counted_lengths k pieces
+    by_kind : (k : Kind) → has_list k ≡ true → counted_in (direction_of k) (parts_of pieces pages) ≡ counted_lengths k pieces
         → counted_in (direction_of k) (parts_of (Bucket len ∷ pieces) pages) ≡ counted_lengths k (Bucket len ∷ pieces)
-    go Read list ih = omega (arith, ih, sum_by-cons (counted_length Read) (Bucket len) pieces)
-    go Write list ih = omega (arith, ih, sum_by-cons (counted_length Write) (Bucket len) pieces)
-    go Compare list ih = omega (arith, ih, sum_by-cons (counted_length Compare) (Bucket len) pieces)
-    go Deallocate list ih = omega (arith, ih, sum_by-cons (counted_length Deallocate) (Bucket len) pieces)
-    go WriteZeroes list ih = absurd (true≢false (sym list))
-    go Verify list ih = absurd (true≢false (sym list))
-    go Flush list ih = absurd (true≢false (sym list))
-    go (Admin command) list ih = absurd (true≢false (sym list))
+    by_kind Read list ih = omega (arith, ih, sum_by-cons (counted_length Read) (Bucket len) pieces)
+    by_kind Write list ih = omega (arith, ih, sum_by-cons (counted_length Write) (Bucket len) pieces)
+    by_kind Compare list ih = omega (arith, ih, sum_by-cons (counted_length Compare) (Bucket len) pieces)
+    by_kind Deallocate list ih = omega (arith, ih, sum_by-cons (counted_length Deallocate) (Bucket len) pieces)
+    by_kind WriteZeroes list ih = absurd (true≢false (sym list))
+    by_kind Verify list ih = absurd (true≢false (sym list))
+    by_kind Flush list ih = absurd (true≢false (sym list))
+    by_kind (Admin command) list ih = absurd (true≢false (sym list))
 counted_parts kind list (Data offset len ∷ pieces) [] few = absurd (grind (arith, common_steps))
 counted_parts kind list (Data offset len ∷ pieces) (page ∷ pages) few =
     omega (arith, counted_parts kind list pieces pages (grind (arith, common_steps)), sum_by-cons (counted_length kind) (Data offset len) pieces)
@@ -106,7 +106,7 @@ parts_count r pages good far has = elim (cases_Bool (has_list r.kind)) [
       ap (λ (pieces : List Piece). counted_in (direction_of r.kind) (parts_of pieces pages)) none ∙ ap (counted_lengths r.kind) (sym none) ∙ (good_is r good).counted far
 ]
 
--- each part that has a place lies in one of the pages
+-- each part that has an address lies in one of the pages
 pub in_page : (page offset len k : ℕ) → offset + len ≤ 4096 → k < len → page_of (4096 * page + offset + k) ≡ page
 in_page page offset len k fits lt = omega (arith, fits, lt)
 
@@ -142,17 +142,17 @@ parts_there m x pages crosses fit are = tt
 
 -- Joined parts: what holds of each part, and of two that join, holds of the joined parts.
 
--- the joined parts of a part and those behind it
+-- the joined parts of a part and those after it
 all_from : (P : Part → Type 0) → ((part next : Part) → joins part next ≡ true → P part → P next → P (both part next)) → (part : Part) (parts : List Part) → P part
     → AllByRecursion P parts → AllByRecursion P (joined_from part parts)
 all_from P one part [] p ps = (p, tt)
 all_from P one part (next ∷ parts) p ps =
-    go (joins part next) refl (λ is. all_from P one (both part next) parts (one part next is p ps.0) ps.1) (all_from P one next parts ps.0 ps.1)
+    by_joining (joins part next) refl (λ is. all_from P one (both part next) parts (one part next is p ps.0) ps.1) (all_from P one next parts ps.0 ps.1)
   where
-    go : (b : Bool) → joins part next ≡ b → (joins part next ≡ true → AllByRecursion P (joined_from (both part next) parts)) → AllByRecursion P (joined_from next parts)
+    by_joining : (b : Bool) → joins part next ≡ b → (joins part next ≡ true → AllByRecursion P (joined_from (both part next) parts)) → AllByRecursion P (joined_from next parts)
         → AllByRecursion P (if b then joined_from (both part next) parts else part ∷ joined_from next parts)
-    go true is together apart = together is
-    go false is together apart = (p, apart)
+    by_joining true is together apart = together is
+    by_joining false is together apart = (p, apart)
 
 pub all_joined : (P : Part → Type 0) → ((part next : Part) → joins part next ≡ true → P part → P next → P (both part next)) → (parts : List Part) → AllByRecursion P parts
     → AllByRecursion P (joined parts)
@@ -162,13 +162,13 @@ all_joined P one (part ∷ parts) ps = subst (AllByRecursion P) (sym (from_list 
 ends_there : (addr len next more : ℕ) → joins (PartData addr len) (PartData next more) ≡ true → addr + len ≡ next
 ends_there addr len next more is = grind (arith, nat_tests)
 
--- a place of two parts is one of the first or one of the second
+-- an address of two parts is one of the first or one of the second
 place_of_two : (X : ℕ → Type 0) (addr len next more : ℕ) → addr + len ≡ next → ((k : ℕ) → k < len → X (addr + k)) → ((k : ℕ) → k < more → X (next + k)) → (k : ℕ) → k < len + more → X (addr + k)
-place_of_two X addr len next more is front behind k lt = go (cases_lt k len)
+place_of_two X addr len next more is front behind k lt = by_part (cases_lt k len)
   where
-    go : (k < len) ⊎ (len ≤ k) → X (addr + k)
-    go (inl l) = front k l
-    go (inr l) = subst X (omega (arith, is, l)) (behind (k - len) (omega (arith, lt, l)))
+    by_part : (k < len) ⊎ (len ≤ k) → X (addr + k)
+    by_part (inl l) = front k l
+    by_part (inr l) = subst X (omega (arith, is, l)) (behind (k - len) (omega (arith, lt, l)))
 
 lies_both : (at : ℕ → Bool) (part next : Part) → joins part next ≡ true → LiesIn at part → LiesIn at next → LiesIn at (both part next)
 lies_both at (PartData addr len) (PartData next more) is front behind = place_of_two (λ (place : ℕ). at place ≡ true) addr len next more (ends_there addr len next more is) front behind
@@ -304,15 +304,15 @@ apart_in s g r within p h = elim (cases_Bool (is_among r.chain_pages p)) [
 -- The memory of a walk has what the pool has
 
 pub pool_bytes : (m : Pages) (at : ℕ → Bool) → HasBytesOf (only at (memory_of m)) (only at (byte_at m))
-pool_bytes m at place byte e = go (at place) (page_at m (page_of place)) e
+pool_bytes m at place byte e = by_page (at place) (page_at m (page_of place)) e
   where
     inner : (bytes : List ℕ) → slice_get bytes (place % 4096) ≡ Some byte → Some (slice_index bytes (place % 4096)) ≡ Some byte
     inner bytes e = sym (slice_get-get_or bytes (place % 4096) 0 (slice_get_within bytes (place % 4096) byte e)) ∙ e
 
-    go : (b : Bool) (o : Option (List ℕ)) → (if b then option_and_then (λ bytes. slice_get bytes (place % 4096)) o else None) ≡ Some byte
+    by_page : (b : Bool) (o : Option (List ℕ)) → (if b then option_and_then (λ bytes. slice_get bytes (place % 4096)) o else None) ≡ Some byte
         → (if b then option_map (λ page. slice_index page (place % 4096)) o else None) ≡ Some byte
-    go true (Some bytes) e = inner bytes e
-    go x o e = absurd cc
+    by_page true (Some bytes) e = inner bytes e
+    by_page x o e = absurd cc
 
 -- What the walk of a job reaches
 
@@ -413,7 +413,7 @@ course_whole s stood j l moves =
 pub course_ends : (s : State) → Stood s → (j : Job) (l : JobList s j) → moves_data l.request.kind ≡ true → verdict (course_of s j) ≡ End
 course_ends s stood j l moves = (course_whole s stood j l moves).ends
 
--- whatever its entry wants of its list, if it has one, it ends, and if not well then for want of a byte
+-- whatever its entry wants of its list, if it has one, it ends, and if not well then for lack of a byte
 abbrev code_of : WalkState → ℕ
 code_of More = 0
 code_of End = 0
@@ -436,13 +436,13 @@ listed_over s stood j l has =
 
 pub course_over : (s : State) → Stood s → (j : Job) (l : JobList s j) → (verdict (course_of s j) ≢ More) × (verdict (course_of s j) ≢ Fault DATA_TRANSFER_ERROR)
 course_over s stood j l = elim (cases_Bool (has_list l.request.kind)) [
-  | inl has ↦ go (listed_over s stood j l has)
-  | inr still ↦ go (inr (ap verdict (still_course s j l still)))
+  | inl has ↦ by_verdict (listed_over s stood j l has)
+  | inr still ↦ by_verdict (inr (ap verdict (still_course s j l still)))
 ]
   where
-    go : (verdict (course_of s j) ≡ End) ⊎ (verdict (course_of s j) ≡ Fault DATA_SGL_LENGTH_INVALID) → (verdict (course_of s j) ≢ More) × (verdict (course_of s j) ≢ Fault DATA_TRANSFER_ERROR)
-    go (inl e) = (λ f. cc, λ f. cc)
-    go (inr e) = (λ f. cc, λ f. too_short_is_no_loss (sym e ∙ f))
+    by_verdict : (verdict (course_of s j) ≡ End) ⊎ (verdict (course_of s j) ≡ Fault DATA_SGL_LENGTH_INVALID) → (verdict (course_of s j) ≢ More) × (verdict (course_of s j) ≢ Fault DATA_TRANSFER_ERROR)
+    by_verdict (inl e) = (λ f. cc, λ f. cc)
+    by_verdict (inr e) = (λ f. cc, λ f. too_short_is_no_loss (sym e ∙ f))
 
 -- Its list stays where its chain pages stay, and its data pages are in
 
@@ -466,7 +466,7 @@ same_list s t stood j l same there =
     list_served (memory_of s.memory) (memory_of t.memory) j.entry.sgl1 (direction_of_entry j.entry) (need_of_entry j.entry)
     (serves_in s.memory t.memory l.command.chain_pages l.command.data_pages same there (course_of s j) (course_in s j l) (course_over s stood j l).1)
 
--- A built draft, laid into the store, spells its parts from its entry's descriptor.
+-- A built draft, put into the store, spells its parts from its entry's descriptor.
 
 -- Requests that pass as the same are
 
@@ -565,14 +565,14 @@ parts_fit x numbers fit low = tt
 
 first_fits : (s : ℕ) (pages : List ℕ) (parts : List Part) → s ≤ 256 → length parts ≤ 1024 → AllByRecursion (λ part. Fits (descriptor_of_part part)) parts
     → ((n : ℕ) → is_among pages n ≡ true → n < 65536) → Fits (first_of s pages parts)
-first_fits s (page ∷ pages) parts high few fit low = go (nat_le (length parts) s)
+first_fits s (page ∷ pages) parts high few fit low = by_length (nat_le (length parts) s)
   where
     here : page < 65536
     here = low page (or_left (page == page) (is_among pages page) (eq-eqb page page refl))
 
-    go : (b : Bool) → Fits (if b then LastSegment (4096 * page) (16 * length parts) else Segment (4096 * page) (16 * s))
-    go true = (omega (arith, here), omega (arith, few))
-    go false = (omega (arith, here), omega (arith, high))
+    by_length : (b : Bool) → Fits (if b then LastSegment (4096 * page) (16 * length parts) else Segment (4096 * page) (16 * s))
+    by_length true = (omega (arith, here), omega (arith, few))
+    by_length false = (omega (arith, here), omega (arith, high))
 first_fits s [] [] high few fit low = omega arith
 first_fits s [] (part ∷ parts) high few fit low = fit.0
 
@@ -591,7 +591,7 @@ set_same [] p x l = absurd (omega (arith, l))
 set_same (y ∷ m) zero x l = refl
 set_same (y ∷ m) (suc p) x l = set_same m p x (omega (arith, l))
 
--- each page that is brought in once stands there with its bytes
+-- each page that is brought in once is there with its bytes
 pub brought : (pages : List (ℕ × List ℕ)) (m : Pages) → ((p : ℕ) → times p (numbers_of pages) ≤ 1) → ((p : ℕ) → is_among (numbers_of pages) p ≡ true → p < length m)
     → AllByRecursion (λ page. page_at (with_pages pages m) page.0 ≡ Some page.1) pages
 brought [] m once low = tt
@@ -604,7 +604,7 @@ brought (page ∷ pages) m once low = (
       (λ p h. omega (arith, low p (or_right (page.0 == p) (is_among (numbers_of pages) p) h), length-set m page.0 (Some page.1))),
 )
 
--- bytes of a page that stands in the store
+-- bytes of a page that is in the store
 in_page_submitting : (p k : ℕ) → k < 4096 → page_of (4096 * p + k) ≡ p
 in_page_submitting p k l = omega (arith, l)
 
@@ -664,8 +664,8 @@ both_zeroed (x ∷ xs) ys h =
 -- a request that is not refused passes its check
 reserved_is_good : (s : State) (q : ℕ) (r : Request) → refusal_of s (events.Reserve q r) ≡ None → IsGood r
 reserved_is_good s q r h =
-    let go : (o : Option RequestFault) → is_some o ≡ false → o ≡ None = λ o e. grind arith in
-    go (fault_of r.kind r.block_size r.blocks r.pieces) (unrefused s (events.Reserve q r) h).1.1.0
+    let no_fault : (o : Option RequestFault) → is_some o ≡ false → o ≡ None = λ o e. grind arith in
+    no_fault (fault_of r.kind r.block_size r.blocks r.pieces) (unrefused s (events.Reserve q r) h).1.1.0
 
 -- and where the host takes blocks of 512 bytes alone, it has such blocks
 only_takes : (size : BlockSize) → takes Modelled size ≡ true → size ≡ Bytes512
@@ -706,17 +706,17 @@ reserved_is_proper s new q r d order step =
 out_beside : (p q cid : ℕ) (rs : List Record) (r : Record) → find (is_at q cid) rs ≡ Some r → is_out r.phase ≡ false
     → total (taken p) rs + in_record p r ≤ total (in_record p) rs
 out_beside p q cid [] r e stays = absurd cc
-out_beside p q cid (x ∷ rs) r e stays = go (is_at q cid x) e (λ e. out_beside p q cid rs r e stays)
+out_beside p q cid (x ∷ rs) r e stays = by_match (is_at q cid x) e (λ e. out_beside p q cid rs r e stays)
   where
     one_record : (b : Bool) → (if b then in_record p x else 0) ≤ in_record p x
     one_record b = grind arith
 
-    go : (b : Bool) → (if b then Some x else find (is_at q cid) rs) ≡ Some r → (find (is_at q cid) rs ≡ Some r → total (taken p) rs + in_record p r ≤ total (in_record p) rs)
+    by_match : (b : Bool) → (if b then Some x else find (is_at q cid) rs) ≡ Some r → (find (is_at q cid) rs ≡ Some r → total (taken p) rs + in_record p r ≤ total (in_record p) rs)
         → total (taken p) (x ∷ rs) + in_record p r ≤ total (in_record p) (x ∷ rs)
-    go true e ih =
+    by_match true e ih =
         let same : x ≡ r = cc in
         omega (arith, ap (taken p) same ∙ ap (λ (b : Bool). if b then in_record p r else 0) stays, ap (in_record p) same, taken_le p rs)
-    go false e ih = omega (arith, ih e, one_record (is_out x.phase))
+    by_match false e ih = omega (arith, ih e, one_record (is_out x.phase))
 
 -- a page of a command whose pages are not out is in
 page_in : (s : State) → IsSound s → (q cid : ℕ) (r : Record) → record_at s.host q cid ≡ Some r → is_out r.phase ≡ false

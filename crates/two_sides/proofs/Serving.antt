@@ -76,17 +76,17 @@ live_keeps_at s agree q h e live = by (slice_get s.controller.queues q) (λ d f.
 
 pub serve_back : (s : State) → SidesAgree s → ServeS s → CompletionsServe s
 serve_back s agree h = record {
-  serves = λ q x d e f. go q x d e f x.state refl;
+  serves = λ q x d e f. by_state q x d e f x.state refl;
   order = λ q x e deleting. h.order q (awaited_found is_deleting s.host.queues q x e deleting);
 }
   where
     kept : (q : ℕ) (x : HostQueue) (d : ServedQueue) → slice_get s.host.queues q ≡ Some x → slice_get s.controller.queues q ≡ Some d → is_deleting x.state ≡ true → d.cq_there ≡ true
     kept q x d e f deleting = sym (ap (λ (o : Option ServedQueue). option_map_or (λ d. d.cq_there) o true) f) ∙ h.keeps q (awaited_found is_deleting s.host.queues q x e deleting)
 
-    go : (q : ℕ) (x : HostQueue) (d : ServedQueue) → slice_get s.host.queues q ≡ Some x → slice_get s.controller.queues q ≡ Some d → (st : HostState) → x.state ≡ st → in_service st ≡ true → d.cq_there ≡ true
-    go q x d e f states.Live is live = live_keeps s agree q x d e f (ap is_live is)
-    go q x d e f (states.Deleting noted) is live = kept q x d e f (ap is_deleting is)
-    go q x d e f st is live = absurd (true≢false (sym live))
+    by_state : (q : ℕ) (x : HostQueue) (d : ServedQueue) → slice_get s.host.queues q ≡ Some x → slice_get s.controller.queues q ≡ Some d → (st : HostState) → x.state ≡ st → in_service st ≡ true → d.cq_there ≡ true
+    by_state q x d e f states.Live is live = live_keeps s agree q x d e f (ap is_live is)
+    by_state q x d e f (states.Deleting noted) is live = kept q x d e f (ap is_deleting is)
+    by_state q x d e f st is live = absurd (true≢false (sym live))
 
 -- The host's queues
 
@@ -135,17 +135,17 @@ before_less first later (e ∷ un) h = h.1
 
 any_more : (test : SubEntry → Bool) (un : List SubEntry) (x : SubEntry) → list_any test un ≡ true → list_any test (un ++ x ∷ []) ≡ true
 any_more test [] x h = absurd (true≢false (sym h))
-any_more test (e ∷ un) x h = go (test e) h (any_more test un x)
+any_more test (e ∷ un) x h = by_test (test e) h (any_more test un x)
   where
-    go : (b : Bool) → (b || list_any test un) ≡ true → (list_any test un ≡ true → list_any test (un ++ x ∷ []) ≡ true) → (b || list_any test (un ++ x ∷ [])) ≡ true
-    go true h more = refl
-    go false h more = more h
+    by_test : (b : Bool) → (b || list_any test un) ≡ true → (list_any test un ≡ true → list_any test (un ++ x ∷ []) ≡ true) → (b || list_any test (un ++ x ∷ [])) ≡ true
+    by_test true h more = refl
+    by_test false h more = more h
 
 any_last : (test : SubEntry → Bool) (un : List SubEntry) (x : SubEntry) → test x ≡ true → list_any test (un ++ x ∷ []) ≡ true
 any_last test [] x is = ap (λ (b : Bool). b || false) is
 any_last test (e ∷ un) x is = grind (arith, any_last test un x is)
 
--- another entry comes behind them, and then the entry that has to stand behind them all
+-- another entry comes after them, and then the entry that has to come after them all
 pub before_more : (first later : SubEntry → Bool) (un : List SubEntry) (x : SubEntry) → first x ≡ false → AreBefore first later un → AreBefore first later (un ++ x ∷ [])
 before_more first later [] x far h = (λ is. absurd (true≢false (sym is ∙ far)), tt)
 before_more first later (e ∷ un) x far h = (λ is. any_more later un x (h.0 is), before_more first later un x far h.1)
@@ -194,10 +194,10 @@ serve_cleared (suc k) hs ds h = serve_other cleared (suc k) hs ds (λ d there. t
 -- an entry that asks for the deletion of a submission queue is an admin command that is not fetched
 asked_unmade : (rs : List Record) (q : ℕ) (un : List SubEntry) → AllByRecursion (EntryKnown rs) un → list_any (asks_sq_deletion q) un ≡ true → 0 < total (λ e. one (is_kind (deletes_sq q) rs e.cid)) un
 asked_unmade rs q [] all any = absurd (true≢false (sym any))
-asked_unmade rs q (e ∷ un) all any = go (asks_sq_deletion q e) refl any (λ later. asked_unmade rs q un all.1 later)
+asked_unmade rs q (e ∷ un) all any = by_deletion (asks_sq_deletion q e) refl any (λ later. asked_unmade rs q un all.1 later)
   where
-    go : (b : Bool) → asks_sq_deletion q e ≡ b → (b || list_any (asks_sq_deletion q) un) ≡ true → (list_any (asks_sq_deletion q) un ≡ true → 0 < total (λ e. one (is_kind (deletes_sq q) rs e.cid)) un) → 0 < one (is_kind (deletes_sq q) rs e.cid) + total (λ e. one (is_kind (deletes_sq q) rs e.cid)) un
-    go b is any later = grind arith
+    by_deletion : (b : Bool) → asks_sq_deletion q e ≡ b → (b || list_any (asks_sq_deletion q) un) ≡ true → (list_any (asks_sq_deletion q) un ≡ true → 0 < total (λ e. one (is_kind (deletes_sq q) rs e.cid)) un) → 0 < one (is_kind (deletes_sq q) rs e.cid) + total (λ e. one (is_kind (deletes_sq q) rs e.cid)) un
+    by_deletion b is any later = grind arith
 
 completed_serve : (q : ℕ) (cid : ℕ) (st : Status) (dw0 : ℕ) (t : State) → ServeS t → ServeS (posts_completion q cid st dw0 t)
 completed_serve q cid st dw0 t h = serve_same (λ at. record at { completions = at.completions ++ posted_completion q cid st dw0 t ∷ [] }) q t.host.queues t.controller.queues (λ x there. there) (λ x. refl) h
@@ -275,7 +275,7 @@ serve_controller_event s e reply ok c agree h = absurd (true≢false (sym c))
 differ : (x y : ℕ) (b : Bool) → (x ≡ y → b ≡ true) → b ≡ false → (x == y) ≡ false
 differ x y b same stays = grind arith
 
--- behind a reset no queue is being deleted
+-- after a reset no queue is being deleted
 pub serve_reset : (hs : List HostQueue) (ds : List ServedQueue) → Serve (a.reset_queues hs) (a.reset_served_queues ds) (waiting (a.reset_served_queues ds))
 serve_reset hs ds =
     record {

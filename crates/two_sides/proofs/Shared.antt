@@ -24,7 +24,7 @@ use Rattle.controller_core.proofs.Lists.{length-change}
 abbrev Shares : List ControllerQueue → HostPart → Type 0
 Shares cs part = ShareQueues part.entries 0 part.host.queues cs
 
--- what is shared does not speak of the host's queues, but for how many there are
+-- what is shared does not speak of the host's queues, except how many there are
 as_many : (n q : ℕ) (hs hs' : List HostQueue) (cs : List ControllerQueue) → length hs' ≡ length hs → ShareQueues n q hs cs → ShareQueues n q hs' cs
 as_many n q [] [] cs l h = h
 as_many n q (x ∷ hs) (y ∷ hs') [] l h = absurd h
@@ -37,7 +37,7 @@ event cs s e reply ok c h =
     subst (λ (n : ℕ). ShareQueues n 0 (a.after s e reply).host.queues cs) (sym (host_leaves s e reply ok c).entries)
     (as_many s.entries 0 s.host.queues (a.after s e reply).host.queues cs (queues_stay s e reply ok c) h)
 
--- The controller's queues, as it hears a doorbell
+-- The controller's queues, as its doorbell is rung
 
 pub belled : (n q k : ℕ) (f : ControllerQueue → ControllerQueue) (hs : List HostQueue) (cs : List ControllerQueue) → ((i : ℕ) (h : HostQueue) (c : ControllerQueue) → ShareQueue n i h c → ShareQueue n i h (f c)) → ShareQueues n q hs cs → ShareQueues n q hs (controller.change k f cs)
 belled n q k f hs [] keeps h = h
@@ -64,7 +64,7 @@ share_queues s e reply host pages c step share =
     (λ q head. belled host.entries 0 q (with_head head) host.host.queues s.controller.queues (head_heard head host.entries))
     (each_step (Shares s.controller.queues) (event s.controller.queues) (alone s.host s.pages) e reply (alone host pages) step share)
 
--- No call of the host alone is a reset: behind a reset the machine is trusted, and a host alone trusts nothing.
+-- No call of the host alone is a reset: after a reset the machine is trusted, and a host alone trusts nothing.
 
 pub never_alone : (v v' : HostView) (pages pages' : Pages) (reply : Reply) → HostStep v pages events.Reset reply v' pages' → ⊥
 never_alone v v' pages pages' reply step = true≢false (sym (ap (λ (s : State). s.trusted) (reset_leaves (alone v pages) reply (alone v' pages') step)))

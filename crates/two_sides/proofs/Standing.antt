@@ -48,14 +48,14 @@ list_same get zero f (x ∷ qs) zero same = same x
 list_same get (suc k) f (x ∷ qs) (suc q) same = list_same get k f qs q same
 list_same get k f x q same = refl
 
--- a queue's list counts more by so much at most
+-- a queue's list counts more by this much at most
 pub more_at : {B : Type 0} (get : ServedQueue → List B) (w : B → ℕ) (k : ℕ) (f : ServedQueue → ServedQueue) (extra : ℕ) (qs : List ServedQueue) (q : ℕ) → ((at : ServedQueue) → total w (get (f at)) ≤ total w (get at) + extra)
     → total w (list_at get (change k f qs) q) ≤ total w (list_at get qs q) + (if k == q then extra else 0)
 more_at get w zero f extra (x ∷ qs) zero h = h x
 more_at get w (suc k) f extra (x ∷ qs) (suc q) h = omega (arith, more_at get w k f extra qs q h, at_suc k q extra)
 more_at get w k f extra x q h = omega arith
 
--- or less by so much at least
+-- or less by this much at least
 pub less_at : {B : Type 0} (get : ServedQueue → List B) (w : B → ℕ) (k : ℕ) (f : ServedQueue → ServedQueue) (less : ℕ) (qs : List ServedQueue) (q : ℕ) (at : ServedQueue) → slice_get qs k ≡ Some at
     → total w (get (f at)) + less ≤ total w (get at)
     → total w (list_at get (change k f qs) q) + (if k == q then less else 0) ≤ total w (list_at get qs q)
@@ -142,12 +142,12 @@ controller-posted q entry s = grind arith
 pub taken_entry : (ds : List ServedQueue) (e : SubEntry) → option_and_then (λ queue. if is_running queue.state && nat_lt 0 queue.rung then slice_get queue.unfetched 0 else None) (slice_get ds 0) ≡ Some e
     → waiting ds ≡ e ∷ waiting (change 0 (λ at. record at { unfetched = drop 1 at.unfetched; rung = at.rung - 1 }) ds)
 taken_entry [] e h = absurd cc
-taken_entry (at ∷ ds) e h = go (is_running at.state && nat_lt 0 at.rung) at.unfetched h
+taken_entry (at ∷ ds) e h = entry_is_first (is_running at.state && nat_lt 0 at.rung) at.unfetched h
   where
-    go : (b : Bool) (un : List SubEntry) → (if b then slice_get un 0 else None) ≡ Some e → un ≡ e ∷ drop 1 un
-    go false un h = absurd cc
-    go true [] h = absurd cc
-    go true (x ∷ un) h = let same : x ≡ e = cc in ap (λ y. y ∷ un) same
+    entry_is_first : (b : Bool) (un : List SubEntry) → (if b then slice_get un 0 else None) ≡ Some e → un ≡ e ∷ drop 1 un
+    entry_is_first false un h = absurd cc
+    entry_is_first true [] h = absurd cc
+    entry_is_first true (x ∷ un) h = let same : x ≡ e = cc in ap (λ y. y ∷ un) same
 
 -- Fetching
 
@@ -224,7 +224,7 @@ placed_managed rs e s h =
 placed_completed_other : (rs : List Record) (q : ℕ) (an : PostedCompletion) (d : Controller) → (q == 0) ≡ false → PlacedIn rs d → PlacedIn rs (record d { queues = change q (λ at. record at { completions = at.completions ++ an ∷ [] }) d.queues })
 placed_completed_other rs q an d other h = placed_other rs d q (λ at. record at { completions = at.completions ++ an ∷ [] }) other h
 
--- a completion more of queue 0, which is there
+-- one more completion of queue 0, which is there
 pub admin_completions_more : (ds : List ServedQueue) (an : PostedCompletion) → is_some (slice_get ds 0) ≡ true → admin_completions (change 0 (λ at. record at { completions = at.completions ++ an ∷ [] }) ds) ≡ admin_completions ds ++ an ∷ []
 admin_completions_more [] an h = absurd (true≢false (sym h))
 admin_completions_more (at ∷ ds) an h = refl
@@ -284,11 +284,11 @@ pub final_admin : (s : State) (j : Job) (st : Status) → j.q ≡ 0 → j.verdic
 final_admin s j st z v = rw (eq-eqb j.q 0 z, v) refl
 
 pub verdict_there : (j : Job) → is_none j.verdict ≡ false → (st : Status) × (j.verdict ≡ Some st)
-verdict_there j h = go j.verdict h
+verdict_there j h = by_status j.verdict h
   where
-    go : (o : Option Status) → is_none o ≡ false → (st : Status) × (o ≡ Some st)
-    go None h = absurd (true≢false h)
-    go (Some st) h = (st, refl)
+    by_status : (o : Option Status) → is_none o ≡ false → (st : Status) × (o ≡ Some st)
+    by_status None h = absurd (true≢false h)
+    by_status (Some st) h = (st, refl)
 
 -- its deletion was of an I/O queue
 pub clears_io : (rs : List Record) (s : State) (j : Job) (st : Status) → JobKnown rs j → j.q ≡ 0 → j.verdict ≡ Some st → clears s j ≡ true → (named_queue j.entry == 0) ≡ false
@@ -372,11 +372,11 @@ records_less rs q cid d other h =
   where
     all : (c : ℕ) (rs : List Record) → total (here 0 c) rs ≤ total (here 0 c) (without_record q cid rs)
     all c [] = omega arith
-    all c (r ∷ rs) = go (is_at q cid r) (is_at 0 c r) refl refl (all c rs)
+    all c (r ∷ rs) = none_is_lost (is_at q cid r) (is_at 0 c r) refl refl (all c rs)
       where
-        go : (b z : Bool) → is_at q cid r ≡ b → is_at 0 c r ≡ z → total (here 0 c) rs ≤ total (here 0 c) (without_record q cid rs)
+        none_is_lost : (b z : Bool) → is_at q cid r ≡ b → is_at 0 c r ≡ z → total (here 0 c) rs ≤ total (here 0 c) (without_record q cid rs)
             → here 0 c r + total (here 0 c) rs ≤ total (here 0 c) (if not b then r ∷ without_record q cid rs else without_record q cid rs)
-        go b z eb ez ih = grind arith
+        none_is_lost b z eb ez ih = grind arith
 
 -- Posting
 
@@ -384,7 +384,7 @@ stands_posted_other : (q : ℕ) (entry : SubEntry) (s : State) → (q == 0) ≡ 
 stands_posted_other q entry s other h = placed_other s.host.records s.controller q (λ at. record at { unfetched = at.unfetched ++ entry ∷ [] }) other h
 
 stands_sent : (adm : AdminKind) (id : ℕ) (s : State) → total (here 0 id) s.host.records ≡ 0 → Stands s → Stands (sends adm id s)
-stands_sent adm id s unused h = record { placed = go s.controller.queues h.placed }
+stands_sent adm id s unused h = record { placed = stays_placed s.controller.queues h.placed }
   where
     new : Record
     new = sent_record adm id
@@ -392,21 +392,21 @@ stands_sent adm id s unused h = record { placed = go s.controller.queues h.place
     more : ServedQueue → ServedQueue
     more at = record at { unfetched = at.unfetched ++ admin_entry adm id ∷ [] }
 
-    go : (ds : List ServedQueue) → Placed s.host.records (waiting ds) s.controller.jobs (admin_completions ds) → Placed (s.host.records ++ new ∷ []) (waiting (change 0 more ds)) s.controller.jobs (admin_completions (change 0 more ds))
-    go [] p = placed_records s.host.records (s.host.records ++ new ∷ []) [] s.controller.jobs [] (λ c. omega (arith, total-append (here 0 c) s.host.records (new ∷ [])))
+    stays_placed : (ds : List ServedQueue) → Placed s.host.records (waiting ds) s.controller.jobs (admin_completions ds) → Placed (s.host.records ++ new ∷ []) (waiting (change 0 more ds)) s.controller.jobs (admin_completions (change 0 more ds))
+    stays_placed [] p = placed_records s.host.records (s.host.records ++ new ∷ []) [] s.controller.jobs [] (λ c. omega (arith, total-append (here 0 c) s.host.records (new ∷ [])))
         (λ c adm k. (k.0, find_more (is_at 0 c) s.host.records new k.0 k.1, k.2)) p
-    go (at ∷ ds) p = placed_sent s.host.records at.unfetched s.controller.jobs at.completions adm id new unused (rw (eq-eqb id id refl) refl) refl p
+    stays_placed (at ∷ ds) p = placed_sent s.host.records at.unfetched s.controller.jobs at.completions adm id new unused (rw (eq-eqb id id refl) refl) refl p
 
 -- Reaping
 
 pub admin_completions_rest : (ds : List ServedQueue) (an : PostedCompletion) → option_and_then (λ (queue : ServedQueue). front_completion queue.completions) (slice_get ds 0) ≡ Some an
     → admin_completions ds ≡ an ∷ admin_completions (change 0 (λ at. record at { completions = drop 1 at.completions }) ds)
 admin_completions_rest [] an h = absurd cc
-admin_completions_rest (at ∷ ds) an h = go at.completions h
+admin_completions_rest (at ∷ ds) an h = completion_is_first at.completions h
   where
-    go : (ans : List PostedCompletion) → front_completion ans ≡ Some an → ans ≡ an ∷ drop 1 ans
-    go [] h = absurd cc
-    go (x ∷ ans) h = let same : x ≡ an = cc in ap (λ y. y ∷ ans) same
+    completion_is_first : (ans : List PostedCompletion) → front_completion ans ≡ Some an → ans ≡ an ∷ drop 1 ans
+    completion_is_first [] h = absurd cc
+    completion_is_first (x ∷ ans) h = let same : x ≡ an = cc in ap (λ y. y ∷ ans) same
 
 admin_completions_less : (rs : List Record) (d : Controller) → PlacedIn rs d → PlacedIn rs (record d { queues = change 0 (λ at. record at { completions = drop 1 at.completions }) d.queues })
 admin_completions_less rs d h = record { placed = shorter d.queues h.placed }
@@ -551,10 +551,10 @@ pub both_on : (s : State) (e : Event) (reply : Reply) → Accepts s e reply → 
 both_on s e reply ok t m h = (holds_on s e reply ok h.0, stands_event s e reply ok t m h)
 
 pub opening_stands : (pages queues n s : ℕ) (image : List ℕ) → Stands (opening pages queues n s image)
-opening_stands pages queues n s image = record { placed = go queues }
+opening_stands pages queues n s image = record { placed = starts_placed queues }
   where
-    go : (queues : ℕ) → Placed [] (waiting (replicate (queues + 1) opened)) [] (admin_completions (replicate (queues + 1) opened))
-    go queues = subst (λ (k : ℕ). Placed [] (waiting (replicate k opened)) [] (admin_completions (replicate k opened))) (add-one' queues)
+    starts_placed : (queues : ℕ) → Placed [] (waiting (replicate (queues + 1) opened)) [] (admin_completions (replicate (queues + 1) opened))
+    starts_placed queues = subst (λ (k : ℕ). Placed [] (waiting (replicate k opened)) [] (admin_completions (replicate k opened))) (add-one' queues)
         (record { places = λ c. omega arith; entries = tt; jobs = tt; completions = tt })
       where
         add-one' : (k : ℕ) → suc k ≡ k + 1
@@ -566,12 +566,12 @@ times-map id c (x ∷ xs) = times-cons c (id x) (map id xs) ∙ ap (λ n. one (i
 
 times-jobs : (c : ℕ) (js : List Job) → times c (map (λ j. j.entry.cid) (filter (λ j. j.q == 0) js)) ≡ total (job_is c) js
 times-jobs c [] = refl
-times-jobs c (j ∷ js) = go (j.q == 0) (times-jobs c js)
+times-jobs c (j ∷ js) = by_queue (j.q == 0) (times-jobs c js)
   where
-    go : (b : Bool) → times c (map (λ j. j.entry.cid) (filter (λ j. j.q == 0) js)) ≡ total (job_is c) js
+    by_queue : (b : Bool) → times c (map (λ j. j.entry.cid) (filter (λ j. j.q == 0) js)) ≡ total (job_is c) js
         → times c (map (λ j. j.entry.cid) (if b then j ∷ filter (λ j. j.q == 0) js else filter (λ j. j.q == 0) js)) ≡ one (b && (j.entry.cid == c)) + total (job_is c) js
-    go true ih = times-cons c j.entry.cid (map (λ j. j.entry.cid) (filter (λ j. j.q == 0) js)) ∙ ap (λ n. one (j.entry.cid == c) + n) ih
-    go false ih = omega (arith, ih)
+    by_queue true ih = times-cons c j.entry.cid (map (λ j. j.entry.cid) (filter (λ j. j.q == 0) js)) ∙ ap (λ n. one (j.entry.cid == c) + n) ih
+    by_queue false ih = omega (arith, ih)
 
 -- A run as its steps were made
 

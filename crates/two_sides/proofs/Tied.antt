@@ -56,18 +56,18 @@ tied_from_fit s h = record { some_entries = h.some_entries; pairs = h.pairs; job
 
 -- The controller's events change its controller alone
 
--- a job more, of a queue that is there and in service
+-- one more job, of a queue that is there and in service
 tie_more : (part : HostPart) (d : Controller) (j : Job) → gone_at d.queues j.q ≡ false → out_at part.host.queues j.q ≡ false → TieP part d → TieP part (record d { jobs = d.jobs ++ j ∷ [] })
 tie_more part d j there served h = record {
   pairs = h.pairs;
-  jobs = λ q some. go (λ z. gone_at d.queues z ≡ false) h.jobs there q (j.q == q) refl some (total-append (on_queue q) d.jobs (j ∷ []));
-  service = λ q some. go (λ z. out_at part.host.queues z ≡ false) h.service served q (j.q == q) refl some (total-append (on_queue q) d.jobs (j ∷ []));
+  jobs = λ q some. by_queue (λ z. gone_at d.queues z ≡ false) h.jobs there q (j.q == q) refl some (total-append (on_queue q) d.jobs (j ∷ []));
+  service = λ q some. by_queue (λ z. out_at part.host.queues z ≡ false) h.service served q (j.q == q) refl some (total-append (on_queue q) d.jobs (j ∷ []));
 }
   where
-    go : (P : ℕ → Type 0) → ((q : ℕ) → 0 < total (on_queue q) d.jobs → P q) → P j.q
+    by_queue : (P : ℕ → Type 0) → ((q : ℕ) → 0 < total (on_queue q) d.jobs → P q) → P j.q
         → (q : ℕ) (b : Bool) → (j.q == q) ≡ b → 0 < total (on_queue q) (d.jobs ++ j ∷ []) → total (on_queue q) (d.jobs ++ j ∷ []) ≡ total (on_queue q) d.jobs + (on_queue q j + 0) → P q
-    go P before own q true e some t = subst P (eqb-true j.q q e) own
-    go P before own q false e some t = before q (omega (arith, t, ap one e))
+    by_queue P before own q true e some t = subst P (eqb-true j.q q e) own
+    by_queue P before own q false e some t = before q (omega (arith, t, ap one e))
 
 tie_jobs_map : (part : HostPart) (d : Controller) (f : Job → Job) → ((j : Job) → (f j).q ≡ j.q) → TieP part d → TieP part (record d { jobs = map f d.jobs })
 tie_jobs_map part d f same h =
@@ -109,15 +109,15 @@ tie_managed part e s there served h =
 
 -- an entry that is fetched is one of a queue in service
 rung_served : (part : HostPart) (s : State) (q : ℕ) (e : SubEntry) → next_rung s q ≡ Some e → Paired part.entries part.host.queues s.controller.queues → out_at part.host.queues q ≡ false
-rung_served part s q e h pairs = go (slice_get s.controller.queues q) refl h
+rung_served part s q e h pairs = if_found (slice_get s.controller.queues q) refl h
   where
     fetched : (b : Bool) (un : List SubEntry) → (if b then slice_get un 0 else None) ≡ Some e → un ≡ [] → ⊥
     fetched true un is none = let no : ◌≡◌ {A = Option SubEntry} None (Some e) = sym (ap (λ (xs : List SubEntry). slice_get xs 0) none) ∙ is in absurd cc
     fetched false un is none = absurd cc
 
-    go : (o : Option ServedQueue) → slice_get s.controller.queues q ≡ o → option_and_then (λ queue. if is_running queue.state && nat_lt 0 queue.rung then slice_get queue.unfetched 0 else None) o ≡ Some e → out_at part.host.queues q ≡ false
-    go None at is = absurd cc
-    go (Some d) at is = let x = paired_at part.entries q part.host.queues s.controller.queues d at pairs in let ex = x.1 in let pair = x.2 in grind arith
+    if_found : (o : Option ServedQueue) → slice_get s.controller.queues q ≡ o → option_and_then (λ queue. if is_running queue.state && nat_lt 0 queue.rung then slice_get queue.unfetched 0 else None) o ≡ Some e → out_at part.host.queues q ≡ false
+    if_found None at is = absurd cc
+    if_found (Some d) at is = let x = paired_at part.entries q part.host.queues s.controller.queues d at pairs in let ex = x.1 in let pair = x.2 in grind arith
 
 pub tie_fetch : (part : HostPart) (q : ℕ) (s : State) → TieP part s.controller → TieP part (a.after_fetch q s).controller
 tie_fetch part q s h =
@@ -333,7 +333,7 @@ tie_host_event s e reply ok c g h =
 
 -- What the host's events do to the tokens of what is deleted and made.
 
--- The host's queues as they were, but for their rings
+-- The host's queues as they were, except their rings
 
 pub record Alike (hs hs' : List HostQueue) : Type 0 where
   pub long : length hs' ≡ length hs

@@ -24,7 +24,7 @@ use Rattle.page_ledger.proofs.Pages.{length-pages_from}
 use Rattle.controller_core.proofs.Lists.{length-change}
 use Rattle.host_core.proofs.Openings.{length-queues_from}
 
--- Every event keeps the tie of both sides and the tokens, so it fetches and completes in what is allowed only.
+-- Every event keeps the tie of both sides and the tokens, so it fetches and completes only within what is allowed.
 
 -- What the tokens say of a live queue
 
@@ -122,11 +122,11 @@ by_host s e reply ok c t m zero' h f =
 
 -- a job that is walked is no admin command's
 walked : (s : State) (q cid : ℕ) → refusal_of s (events.Walk q cid) ≡ None → TokensP s.host.records s.host.queues s.controller → TokensP s.host.records s.host.queues (a.after_walk q cid s).controller
-walked s q cid none h = tokens_walk s.host.records s.host.queues q cid s (go (job_at s q cid) refl (unrefused s (events.Walk q cid) none).0 (unrefused s (events.Walk q cid) none).1.0) h
+walked s q cid none h = tokens_walk s.host.records s.host.queues q cid s (by_job (job_at s q cid) refl (unrefused s (events.Walk q cid) none).0 (unrefused s (events.Walk q cid) none).1.0) h
   where
-    go : (o : Option Job) → job_at s q cid ≡ o → is_none o ≡ false → option_map_or (λ j. is_some j.verdict || (j.q == 0)) o false ≡ false → (q == 0) ≡ false
-    go None e there nothing = absurd (true≢false there)
-    go (Some j) e there nothing =
+    by_job : (o : Option Job) → job_at s q cid ≡ o → is_none o ≡ false → option_map_or (λ j. is_some j.verdict || (j.q == 0)) o false ≡ false → (q == 0) ≡ false
+    by_job None e there nothing = absurd (true≢false there)
+    by_job (Some j) e there nothing =
         let at = and_parts (j.q == q) (j.entry.cid == cid) (found_is (is_job q cid) s.controller.jobs j e) in
         ap (λ (k : ℕ). k == 0) (sym (eqb-true j.q q at.0)) ∙ (or_parts (is_some j.verdict) (j.q == 0) nothing).1
 

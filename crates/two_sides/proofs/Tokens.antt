@@ -211,7 +211,7 @@ tokens_fetch rs hs (suc k) s g h =
     let fault = io_fault (a.image_blocks (a.taken_off (suc k) s)) e in
     let t = (a.taken_off (suc k) s).controller in
     let j = a.new_job (suc k) e fault 0 (bytes_after_check s.controller.image e fault) in
-    -- a job of another queue more, or less
+    -- one job of another queue more, or less
     tokens_fewer rs rs hs t.queues (waiting t.queues) (waiting t.queues) t.jobs (t.jobs ++ j ∷ []) (admin_completions t.queues) (admin_completions t.queues) (record {
       unmade = λ test. let none : failing test rs j ≡ 0 = rw (ne_zero k) refl in omega (arith, total-append (failing test rs) t.jobs (j ∷ []), none);
       completed = λ test. omega arith;
@@ -546,15 +546,15 @@ fewer_completions rs un js [] = record { unmade = λ test. omega arith; complete
 fewer_completions rs un js (an ∷ ans) = record { unmade = λ test. omega arith; completed = λ test. omega arith; done = λ test. omega arith }
 
 consumed_tokens : (rs : List Record) (hs : List HostQueue) (q : ℕ) (d : Controller) → TokensP rs hs d → TokensP rs hs (record d { queues = change q (λ at. record at { completions = drop 1 at.completions }) d.queues })
-consumed_tokens rs hs zero d h = go d.queues h
+consumed_tokens rs hs zero d h = tokens_stay d.queues h
   where
     f : ServedQueue → ServedQueue
     f at = record at { completions = drop 1 at.completions }
 
-    go : (ds : List ServedQueue) → TokensHeld rs hs ds (waiting ds) d.jobs (admin_completions ds)
+    tokens_stay : (ds : List ServedQueue) → TokensHeld rs hs ds (waiting ds) d.jobs (admin_completions ds)
         → TokensHeld rs hs (change 0 (λ at. record at { completions = drop 1 at.completions }) ds) (waiting (change 0 (λ at. record at { completions = drop 1 at.completions }) ds)) d.jobs (admin_completions (change 0 (λ at. record at { completions = drop 1 at.completions }) ds))
-    go [] h = h
-    go (at ∷ ds) h =
+    tokens_stay [] h = h
+    tokens_stay (at ∷ ds) h =
         let f : ServedQueue → ServedQueue = λ at. record at { completions = drop 1 at.completions } in
         tokens_controller rs hs (at ∷ ds) (change 0 f (at ∷ ds)) at.unfetched d.jobs (drop 1 at.completions) (controller_same (λ at. is_absent at.state) true f 0 (at ∷ ds) (λ d ed. refl)) (controller_same (λ at. at.cq_there) false f 0 (at ∷ ds) (λ d ed. refl))
         (tokens_fewer rs rs hs (at ∷ ds) at.unfetched at.unfetched d.jobs d.jobs at.completions (drop 1 at.completions) (fewer_completions rs at.unfetched d.jobs at.completions) h)

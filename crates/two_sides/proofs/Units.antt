@@ -35,18 +35,18 @@ first_unit (Closes v) dir m m' bytes bytes' outcome left pages does leaves = abs
 first_unit (Does act rest) dir m m' bytes bytes' outcome left pages does leaves =
     record { act = act; rest = rest; is = refl; effect = does.0; touches = does.1; answers = leaves.0; goes_on = leaves.1 }
 
--- it is the next one of the list, where so many are done
+-- it is the next one of the list, where this many are done
 pub next_done : (n : ℕ) (c : Course) (act : Act) (rest : Course) → after_units n c ≡ Does act rest → (slice_get (units c) n ≡ Some act) × (after_units (n + 1) c ≡ rest)
 next_done n c act rest e =
-    let both = go n c e in
+    let both = along_units n c e in
     let next : n + 1 ≡ suc n = omega arith in
     (both.0, ap (λ (k : ℕ). after_units k c) next ∙ both.1)
   where
-    go : (n : ℕ) (c : Course) → after_units n c ≡ Does act rest → (slice_get (units c) n ≡ Some act) × (after_units (suc n) c ≡ rest)
-    go zero (Closes v) e = absurd cc
-    go zero (Does x r) e = let same : x ≡ act = cc in let behind_it : r ≡ rest = cc in (ap Some same, behind_it)
-    go (suc n) (Closes v) e = absurd cc
-    go (suc n) (Does x r) e = go n r e
+    along_units : (n : ℕ) (c : Course) → after_units n c ≡ Does act rest → (slice_get (units c) n ≡ Some act) × (after_units (suc n) c ≡ rest)
+    along_units zero (Closes v) e = absurd cc
+    along_units zero (Does x r) e = let same : x ≡ act = cc in let behind_it : r ≡ rest = cc in (ap Some same, behind_it)
+    along_units (suc n) (Closes v) e = absurd cc
+    along_units (suc n) (Does x r) e = along_units n r e
 
 -- Each move lies in one page.
 
@@ -61,32 +61,32 @@ HeadInPage (Does act rest) = InPage act
 head_moving : (m : Memory) (n place len offset : ℕ) (rest : Course) → (0 < n → 0 < len) → HeadInPage rest → HeadInPage (moving m n place len offset rest)
 unfolding moving
 head_moving m zero place len offset rest some h = h
-head_moving m (suc n) place len offset rest some h = go (is_some (bytes_at m place (first_part place len)))
+head_moving m (suc n) place len offset rest some h = by_presence (is_some (bytes_at m place (first_part place len)))
   where
-    go : (b : Bool) → HeadInPage (cond b (Does (Moves place (first_part place len) offset) (moving m n (place + first_part place len) (len - first_part place len) (offset + first_part place len) rest)) (Does Stays (Closes (Fault DATA_TRANSFER_ERROR))))
-    go true =
+    by_presence : (b : Bool) → HeadInPage (cond b (Does (Moves place (first_part place len) offset) (moving m n (place + first_part place len) (len - first_part place len) (offset + first_part place len) rest)) (Does Stays (Closes (Fault DATA_TRANSFER_ERROR))))
+    by_presence true =
         elim (cases_Bool (nat_le len (4096 - place % 4096))) [
           | inl e ↦ rw e ((some (omega arith)), omega (arith, leb-true len (4096 - place % 4096) e))
           | inr e ↦ rw e (omega arith, omega arith)
         ]
-    go false = tt
+    by_presence false = tt
 
 head_from : (k : ℕ) (m : Memory) (dir : Direction) (need : ℕ) (c : Cursor) (wanted : ℕ) → HeadInPage (from_place k m dir need c wanted)
 unfolding from_place
 head_from zero m dir need c wanted = tt
-head_from (suc k) m dir need c wanted = go (bytes_at m c.place 16)
+head_from (suc k) m dir need c wanted = by_bytes (bytes_at m c.place 16)
   where
-    go : (o : Option (List ℕ)) → HeadInPage (read_at m dir need c wanted (behind (from_place k m dir need)) o)
-    go None = tt
-    go (Some bytes) = tt
+    by_bytes : (o : Option (List ℕ)) → HeadInPage (read_at m dir need c wanted (behind (from_place k m dir need)) o)
+    by_bytes None = tt
+    by_bytes (Some bytes) = tt
 
 head_behind : (k : ℕ) (m : Memory) (dir : Direction) (need : ℕ) (o : Option Cursor) (wanted : ℕ) → HeadInPage (behind (from_place k m dir need) o wanted)
 head_behind k m dir need None wanted = tt
-head_behind k m dir need (Some c) wanted = go (nat_eq wanted 0)
+head_behind k m dir need (Some c) wanted = by_wanted (nat_eq wanted 0)
   where
-    go : (b : Bool) → HeadInPage (cond b (Closes End) (from_place k m dir need c wanted))
-    go true = tt
-    go false = head_from k m dir need c wanted
+    by_wanted : (b : Bool) → HeadInPage (cond b (Closes End) (from_place k m dir need c wanted))
+    by_wanted true = tt
+    by_wanted false = head_from k m dir need c wanted
 
 head_in : (m : Memory) (w : Progress) (s : progress.State) → HeadInPage (course_in m w s)
 head_in m w (First sgl1) = tt
@@ -99,7 +99,7 @@ pub head_in_page : (m : Memory) (o : Option Walk) → HeadInPage (course_of_walk
 head_in_page m None = tt
 head_in_page m (Some w) = head_in m w w.state
 
--- The pool and the bytes behind it
+-- The pool and the bytes after it
 
 -- the page of a move is in
 page_of_move : (pages : Pages) (place n : ℕ) (found : List ℕ) → 0 < n → bytes_at (byte_at pages) place n ≡ Some found → (page : List ℕ) × (page_at pages (place / 4096) ≡ Some page)

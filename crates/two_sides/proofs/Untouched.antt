@@ -42,11 +42,11 @@ is_walk e = false
 
 pub holds_left : (p : ℕ) (xs ys : List ℕ) → is_among xs p ≡ true → is_among (xs ++ ys) p ≡ true
 holds_left p [] ys h = absurd (true≢false (sym h))
-holds_left p (x ∷ xs) ys h = go (x == p) h (holds_left p xs ys)
+holds_left p (x ∷ xs) ys h = by_page (x == p) h (holds_left p xs ys)
   where
-    go : (b : Bool) → (b || is_among xs p) ≡ true → (is_among xs p ≡ true → is_among (xs ++ ys) p ≡ true) → (b || is_among (xs ++ ys) p) ≡ true
-    go true h ih = refl
-    go false h ih = ih h
+    by_page : (b : Bool) → (b || is_among xs p) ≡ true → (is_among xs p ≡ true → is_among (xs ++ ys) p ≡ true) → (b || is_among (xs ++ ys) p) ≡ true
+    by_page true h ih = refl
+    by_page false h ih = ih h
 
 pub holds_right : (p : ℕ) (xs ys : List ℕ) → is_among ys p ≡ true → is_among (xs ++ ys) p ≡ true
 holds_right p [] ys h = h
@@ -76,22 +76,22 @@ pub completion_inside : (n k : ℕ) → k < n → k * 16 / 4096 < half_pages n C
 completion_inside n k l = omega arith
 
 fetch_slot_below : (s : State) (q : ℕ) → IsLinked s → fetch_slot s q < s.entries
-fetch_slot_below s q linked = go (host_queue s q) (served_queue s q) (linked.inside q)
+fetch_slot_below s q linked = by_queues (host_queue s q) (served_queue s q) (linked.inside q)
   where
-    go : (o : Option HostQueue) (d : Option ServedQueue) → ((queue : HostQueue) → o ≡ Some queue → IsInRing s.entries queue.ring)
+    by_queues : (o : Option HostQueue) (d : Option ServedQueue) → ((queue : HostQueue) → o ≡ Some queue → IsInRing s.entries queue.ring)
         → option_map_or (λ queue. option_map_or (λ at. moved s.entries queue.ring.tail (s.entries - length at.unfetched)) d 0) o 0 < s.entries
-    go None d inside = linked.entries
-    go (Some queue) None inside = linked.entries
-    go (Some queue) (Some at) inside = moved_below s.entries queue.ring.tail (s.entries - length at.unfetched) (inside queue refl).tail
+    by_queues None d inside = linked.entries
+    by_queues (Some queue) None inside = linked.entries
+    by_queues (Some queue) (Some at) inside = moved_below s.entries queue.ring.tail (s.entries - length at.unfetched) (inside queue refl).tail
 
 post_slot_below : (s : State) (q : ℕ) → IsLinked s → post_slot s q < s.entries
-post_slot_below s q linked = go (host_queue s q) (served_queue s q) (linked.inside q)
+post_slot_below s q linked = by_queues (host_queue s q) (served_queue s q) (linked.inside q)
   where
-    go : (o : Option HostQueue) (d : Option ServedQueue) → ((queue : HostQueue) → o ≡ Some queue → IsInRing s.entries queue.ring)
+    by_queues : (o : Option HostQueue) (d : Option ServedQueue) → ((queue : HostQueue) → o ≡ Some queue → IsInRing s.entries queue.ring)
         → option_map_or (λ queue. option_map_or (λ at. moved s.entries queue.ring.head (length at.completions)) d 0) o 0 < s.entries
-    go None d inside = linked.entries
-    go (Some queue) None inside = linked.entries
-    go (Some queue) (Some at) inside = moved_below s.entries queue.ring.head (length at.completions) (inside queue refl).head
+    by_queues None d inside = linked.entries
+    by_queues (Some queue) None inside = linked.entries
+    by_queues (Some queue) (Some at) inside = moved_below s.entries queue.ring.head (length at.completions) (inside queue refl).head
 
 -- a page is allowed, and its queue's
 abbrev pub StaysIn : State → ℕ → ℕ → Type 0
@@ -109,11 +109,11 @@ of_half s q p queue at e e' h own = (
 )
 
 pub fetch_stays_in : (s : State) (q : ℕ) → IsLinked s → absent s q ≡ false → StaysIn s q (fetch_page s q)
-fetch_stays_in s q linked there = go (host_queue s q) refl
+fetch_stays_in s q linked there = by_queue (host_queue s q) refl
   where
-    go : (o : Option HostQueue) → host_queue s q ≡ o → StaysIn s q (option_map_or (λ queue. slot_page queue.sq_pages 64 (fetch_slot s q)) o 0)
-    go None e = let known : is_some (host_queue s q) ≡ true = linked.known q there in absurd (true≢false (sym (rw e at known)))
-    go (Some queue) e =
+    by_queue : (o : Option HostQueue) → host_queue s q ≡ o → StaysIn s q (option_map_or (λ queue. slot_page queue.sq_pages 64 (fetch_slot s q)) o 0)
+    by_queue None e = let known : is_some (host_queue s q) ≡ true = linked.known q there in absurd (true≢false (sym (rw e at known)))
+    by_queue (Some queue) e =
         let at = in_controller s q there in
         let p : ℕ = slot_page queue.sq_pages 64 (fetch_slot s q) in
         let inside : fetch_slot s q * 64 / 4096 < length queue.sq_pages =
@@ -125,11 +125,11 @@ fetch_stays_in s q linked there = go (host_queue s q) refl
         (holds_left p queue.sq_pages queue.cq_pages held)
 
 pub post_stays_in : (s : State) (q : ℕ) → IsLinked s → absent s q ≡ false → StaysIn s q (post_page s q)
-post_stays_in s q linked there = go (host_queue s q) refl
+post_stays_in s q linked there = by_queue (host_queue s q) refl
   where
-    go : (o : Option HostQueue) → host_queue s q ≡ o → StaysIn s q (option_map_or (λ queue. slot_page queue.cq_pages 16 (post_slot s q)) o 0)
-    go None e = let known : is_some (host_queue s q) ≡ true = linked.known q there in absurd (true≢false (sym (rw e at known)))
-    go (Some queue) e =
+    by_queue : (o : Option HostQueue) → host_queue s q ≡ o → StaysIn s q (option_map_or (λ queue. slot_page queue.cq_pages 16 (post_slot s q)) o 0)
+    by_queue None e = let known : is_some (host_queue s q) ≡ true = linked.known q there in absurd (true≢false (sym (rw e at known)))
+    by_queue (Some queue) e =
         let at = in_controller s q there in
         let p : ℕ = slot_page queue.cq_pages 16 (post_slot s q) in
         let cq : option_map_or (λ (at : ServedQueue). at.cq_there) (served_queue s q) false ≡ true = linked.completion_stays q there in
@@ -142,7 +142,7 @@ post_stays_in s q linked there = go (host_queue s q) refl
         (holds_right p (if is_absent at.0.state then [] else queue.sq_pages) (if at.0.cq_there then queue.cq_pages else []) half)
         (holds_right p queue.sq_pages queue.cq_pages held)
 
--- a queue with a rung entry is no absent one
+-- a queue with an announced entry is not absent
 pub rung_there : (s : State) (q : ℕ) → is_none (next_rung s q) ≡ false → absent s q ≡ false
 rung_there s q h = grind arith
 
@@ -185,21 +185,21 @@ refused_stays : (s : State) (e : Event) (why : Refusal) → IsLinked s → (touc
 refused_stays s (events.Fetch q) refusal.Full linked touched h =
     one_stays s q (fetch_page s q) (fetch_stays_in s q linked (rung_there s q (first_other (is_none (next_rung s q)) refusal.Idle refusal.Full (after_idle s q) h.0 (λ e. absurd cc))))
 refused_stays s (events.Fetch q) refusal.SlotOut linked touched h =
-    go (is_in s.memory (fetch_page s q)) (fetch_stays_in s q linked (rung_there s q (first_other (is_none (next_rung s q)) refusal.Idle refusal.SlotOut (after_idle s q) h.0 (λ e. absurd cc))))
+    by_presence (is_in s.memory (fetch_page s q)) (fetch_stays_in s q linked (rung_there s q (first_other (is_none (next_rung s q)) refusal.Idle refusal.SlotOut (after_idle s q) h.0 (λ e. absurd cc))))
   where
-    go : (b : Bool) → StaysIn s q (fetch_page s q) → BothWithin s (pages_of_queue s q) (if b then fetch_page s q ∷ [] else [])
-    go true h = one_stays s q (fetch_page s q) h
-    go false h = refl
+    by_presence : (b : Bool) → StaysIn s q (fetch_page s q) → BothWithin s (pages_of_queue s q) (if b then fetch_page s q ∷ [] else [])
+    by_presence true h = one_stays s q (fetch_page s q) h
+    by_presence false h = refl
 refused_stays s (events.Fetch q) refusal.Memory linked touched h =
     one_stays s q (fetch_page s q) (fetch_stays_in s q linked (rung_there s q (first_fails (is_none (next_rung s q)) refusal.Idle (after_idle s q) h.1)))
 refused_stays s e why linked touched h = refl
 
 fetched_stays : (s : State) (q : ℕ) → IsLinked s → absent s q ≡ false → BothWithin s (pages_of_queue s q) (touched_by_fetch s q)
-fetched_stays s q linked there = go (conflicts s q)
+fetched_stays s q linked there = by_conflict (conflicts s q)
   where
-    go : (b : Bool) → BothWithin s (pages_of_queue s q) (if b then fetch_page s q ∷ post_page s q ∷ [] else fetch_page s q ∷ [])
-    go true = two_stay s q (fetch_page s q) (post_page s q) (fetch_stays_in s q linked there) (post_stays_in s q linked there)
-    go false = one_stays s q (fetch_page s q) (fetch_stays_in s q linked there)
+    by_conflict : (b : Bool) → BothWithin s (pages_of_queue s q) (if b then fetch_page s q ∷ post_page s q ∷ [] else fetch_page s q ∷ [])
+    by_conflict true = two_stay s q (fetch_page s q) (post_page s q) (fetch_stays_in s q linked there) (post_stays_in s q linked there)
+    by_conflict false = one_stays s q (fetch_page s q) (fetch_stays_in s q linked there)
 
 abbrev after_no_job : State → ℕ → ℕ → List (Bool × Refusal)
 after_no_job s q cid =
@@ -277,13 +277,13 @@ not_others count p h r holds within far some =
   where
     both : (rs : List Record) → total (sent_page p) rs + total (λ x. if is_submitted x.phase then 0 else in_record p x) rs ≡ total (in_record p) rs
     both [] = refl
-    both (x ∷ rs) = go (is_submitted x.phase) (both rs)
+    both (x ∷ rs) = by_phase (is_submitted x.phase) (both rs)
       where
-        go : (b : Bool) → total (sent_page p) rs + total (λ x. if is_submitted x.phase then 0 else in_record p x) rs ≡ total (in_record p) rs
+        by_phase : (b : Bool) → total (sent_page p) rs + total (λ x. if is_submitted x.phase then 0 else in_record p x) rs ≡ total (in_record p) rs
             → (if b then in_record p x else 0) + total (sent_page p) rs + ((if b then 0 else in_record p x) + total (λ x. if is_submitted x.phase then 0 else in_record p x) rs) ≡ in_record p x + total (in_record p) rs
-        go b ih = grind arith
+        by_phase b ih = grind arith
 
--- a page that does not stand in a list is not in it
+-- a page that does not occur in a list is not in it
 pub among_counts : (p : ℕ) (xs : List ℕ) → times p xs ≡ 0 → is_among xs p ≡ false
 among_counts p xs none = elim (cases_Bool (is_among xs p)) [ inl e ↦ absurd (omega (arith, none, held_once p xs e)) | inr e ↦ e ]
 
@@ -326,13 +326,13 @@ post_below : (s : State) (q : ℕ) (queue : HostQueue) → host_queue s q ≡ So
 post_below s q queue e l = rw e (elim (option_is (served_queue s q)) [ inl none ↦ rw none (omega (arith, l)) | inr (at, d) ↦ rw d (moved_below s.entries queue.ring.head (length at.completions) l) ])
 
 completed_elsewhere : (q cid : ℕ) (st : Status) (dw0 : ℕ) (s : State) (p : ℕ) → CompletesElsewhere s q p → Same (a.with_posted_completion q cid st dw0 s).memory s p
-completed_elsewhere q cid st dw0 s p known = go (host_queue s q) refl
+completed_elsewhere q cid st dw0 s p known = by_queue (host_queue s q) refl
   where
-    go : (o : Option HostQueue) → host_queue s q ≡ o
+    by_queue : (o : Option HostQueue) → host_queue s q ≡ o
         → Same (option_map_or (λ queue. a.on_memory (λ m. with_page_bytes m (slot_page queue.cq_pages 16 (post_slot s q)) (slot_offset 16 (post_slot s q))
         (completion_bytes (record { dw0 = dw0; sqhd = fetch_slot s q; sqid = q; cid = cid; phase = a.post_phase s q queue; status = st; hints = NONE }))) s) o s).memory s p
-    go None e = refl
-    go (Some queue) e =
+    by_queue None e = refl
+    by_queue (Some queue) e =
         let k = known queue e in
         bytes_elsewhere s.memory (slot_page queue.cq_pages 16 (post_slot s q)) p (slot_offset 16 (post_slot s q)) _
         (index_counts queue.cq_pages (post_slot s q * 16 / 4096) p (subst (λ (n : ℕ). post_slot s q * 16 / 4096 < n) (sym k.1) (completion_inside s.entries (post_slot s q) (post_below s q queue e k.2))) k.0)

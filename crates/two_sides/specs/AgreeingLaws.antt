@@ -1,4 +1,4 @@
--- The laws of states whose sides agree: an opening has it, each step keeps it as long as nothing is forged, and what follows of it.
+-- The laws of states whose sides agree: an opening has it, each step keeps it as long as nothing is forged, and what follows from it.
 use Rattle.std.specs.Prelude.{◌≡◌, ℕ, nat_lt, false, true, ◌&&◌, ◌||◌, ◌≤◌, not, IsTrue, Some, List}
 use Rattle.page_ledger.specs.Owners.{is_among}
 use Rattle.page_memory.specs.Pages.{page_at}
@@ -13,17 +13,17 @@ use Rattle.two_sides.specs.MachineLaws.{HasChainIfIo, is_full, admin_places}
 abbrev pub openings_agree : Type 0
 openings_agree = (pages queues n s : ℕ) (image : List ℕ) → Opens pages queues n s → SidesAgree (opening pages queues n s image)
 
--- a step that leaves a trusted state came from one or is a reset, and keeps it; how a reset comes by it after a forgery, `resets_recover` says
+-- a step that leads to a trusted state came from one or is a reset, and keeps it; `resets_recover` says how a reset restores it after a forgery
 abbrev pub steps_keep_agreement : Type 0
 steps_keep_agreement =
     (old : State) (e : Event) (reply : Reply) (new : State) → Step old e reply new → IsTrue new.trusted
     → IsTrue (old.trusted || resets e) × (SidesAgree old → SidesAgree new)
 
--- so it holds behind each run in which nothing was forged
+-- so it holds after each run in which nothing was forged
 abbrev pub trusted_runs_agree : Type 0
 trusted_runs_agree = (image : List ℕ) (made : List Made) (end : State) → TrustedRun image made end → SidesAgree end
 
--- What follows of it
+-- What follows from it
 
 abbrev pub agreeing_sides_are_linked : Type 0
 agreeing_sides_are_linked = (s : State) → SidesAgree s → IsLinked s
@@ -38,7 +38,7 @@ abbrev pub agreeing_sides_have_room : Type 0
 agreeing_sides_have_room =
     (old : State) (e : Event) (reply : Reply) (new : State) → SidesAgree old → IsTrue old.trusted → Step old e reply new → IsTrue (not (is_full reply))
 
--- an admin command stands at the controller once, and only where it is outstanding
+-- an admin command is at the controller at most once, and only where it is outstanding
 abbrev pub agreed_admin_commands_stand_once : Type 0
 agreed_admin_commands_stand_once = (s : State) (cid : ℕ) → SidesAgree s → times cid (admin_places s) ≤ times cid (outstanding_on s.host 0)
 
@@ -46,7 +46,7 @@ agreed_admin_commands_stand_once = (s : State) (cid : ℕ) → SidesAgree s → 
 abbrev pub agreed_jobs_stand : Type 0
 agreed_jobs_stand = (s : State) (q cid : ℕ) (j : Job) → SidesAgree s → IsTrue (nat_lt 0 q) → job_at s q cid ≡ Some j → JobStands s j
 
--- a step behind which nothing is forged, and that leaves a job of an I/O queue there, leaves its list the same list
+-- a step after which nothing is forged, and that leaves a job of an I/O queue there, keeps its list the same
 abbrev pub agreed_jobs_keep_their_lists : Type 0
 agreed_jobs_keep_their_lists =
     (old new : State) (e : Event) (reply : Reply) (q cid : ℕ) (before after : Job)
@@ -66,7 +66,7 @@ agreed_chains_stay =
     → record_at old.host q cid ≡ Some r → IsTrue (is_submitted r.phase) → IsTrue (is_among r.chain_pages p)
     → page_at new.memory p ≡ page_at old.memory p
 
--- where nothing was forged, each step of the controller stays in what is allowed, and in its own queue or command
+-- where nothing was forged, each step of the controller stays within what is allowed, and within its own queue or command
 abbrev pub agreeing_steps_stay_allowed : Type 0
 agreeing_steps_stay_allowed =
     (old new : State) (e : Event) (reply : Reply)

@@ -1,5 +1,5 @@
--- A queue that the host has in service keeps its completion queue at the controller. The controller deletes none that has a submission queue. An entry that asks for one's
--- deletion is fetched before the entry that asks for that of the submission queue, since behind the latter the host sends no such entry.
+-- A queue that the host has in service keeps its completion queue at the controller. The controller deletes none that has a submission queue. An entry that asks for
+-- one's deletion is fetched before the entry that asks for that of the submission queue, since after the latter the host sends no such entry.
 use Rattle.std.specs.{List.list_any, Prelude.{◌≡◌, ℕ, ◌==◌, Bool, true, ◌&&◌, Some, List, [], ◌∷◌}}
 use Rattle.admin_commands.specs.Entries.{named_queue}
 use Rattle.entry_codec.specs.declared.{admin_opcode.TheConstants.{DELETE_IO_SQ, DELETE_IO_CQ}, submission.SubEntry.SubEntry}
@@ -12,7 +12,7 @@ asks_cq_deletion q e = (e.opcode == DELETE_IO_CQ) && (named_queue e == q)
 abbrev pub asks_sq_deletion : ℕ → SubEntry → Bool
 asks_sq_deletion q e = (e.opcode == DELETE_IO_SQ) && (named_queue e == q)
 
--- behind each entry of one kind stands one of another
+-- after each entry of one kind comes one of another
 abbrev pub AreBefore : (SubEntry → Bool) → (SubEntry → Bool) → List SubEntry → Type 0
 AreBefore first later [] = Unit {0}
 AreBefore first later (e ∷ es) = (first e ≡ true → list_any later es ≡ true) × AreBefore first later es

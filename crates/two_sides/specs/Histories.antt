@@ -14,7 +14,7 @@ abbrev pub openings_have_histories : Type 0
 openings_have_histories =
     (pages queues n s : ℕ) (image : List ℕ) → Opens pages queues n s → IsImage image → HasHistory (opening pages queues n s image)
 
--- a step that leaves a trusted state came from one or is a reset, and makes a history one step longer
+-- a step that leads to a trusted state came from one or is a reset, and makes a history one step longer
 abbrev pub steps_make_histories : Type 0
 steps_make_histories =
     (old : State) (e : Event) (reply : Reply) (new : State) → Step old e reply new → IsTrue new.trusted
@@ -24,7 +24,7 @@ steps_make_histories =
 abbrev pub unforged_runs_end_trusted : Type 0
 unforged_runs_end_trusted = (image : List ℕ) (made : List Made) (end : State) → TrustedRun image made end → IsTrue end.trusted
 
--- the steps behind the last reset, and all of them where there is none
+-- the steps after the last reset, and all of them where there is none
 abbrev pub since_reset : List Made → List Made
 since_reset [] = []
 since_reset (m ∷ made) = if list_any is_reset made then since_reset made else if is_reset m then made else m ∷ made

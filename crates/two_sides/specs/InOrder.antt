@@ -15,7 +15,7 @@ pub record IsInOrder (s : State) : Type 0 where
   pub least_segment : 2 ≤ s.segment
   pub most_segment : s.segment ≤ 256
   pub agree : IsTrue s.trusted → SidesAgree s
-  -- of which a reset makes one whose sides agree, whatever was forged
+  -- from which a reset makes one whose sides agree, whatever was forged
   pub recovers : CanRecover s
 
 abbrev pub openings_are_in_order : Type 0
@@ -56,7 +56,7 @@ abbrev pub has_forgery : List Event → List Reply → Bool
 has_forgery (e ∷ es) (reply ∷ replies) = forges_by e reply || has_forgery es replies
 has_forgery es replies = false
 
--- a run from an opening in which no forgery was accepted is one of which the laws of trusted runs speak
+-- a run from an opening in which no forgery was accepted is one to which the laws of trusted runs apply
 abbrev pub runs_are_made : Type 0
 runs_are_made =
     (pages queues n s : ℕ) (image : List ℕ) (es : List Event) (replies : List Reply) (end : State)

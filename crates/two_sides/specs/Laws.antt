@@ -8,12 +8,12 @@ use Rattle.queue_pair.specs.{Rings.{hearing_tail, hearing_head}, Slots.next_slot
 use Rattle.two_sides.specs.{Hearing.heard, Sides.{Sides, state_of}, Ties.{AreSides, AreTied, ShareQueues, has_ring}}
 use Rattle.machine_model.specs.Events as events
 
--- both sides behind a call of the host
+-- both sides after a call of the host
 abbrev pub behind : Sides → Event → Reply → HostView → Pages → Sides
 behind s e reply host pages = record s { host = host; pages = pages; controller = heard e reply host s.controller }
 
--- Whatever was forged: where both sides have equally many queues, and each at the controller has its number, as many entries as the host's and
--- a side that fits them, a step of the host leaves it so.
+-- Whatever was forged: where both sides have the same number of queues, and each at the controller has its number, as many entries as the host's and
+-- a side that fits them, a step of the host keeps it so.
 abbrev pub hosts_share_queues : Type 0
 hosts_share_queues =
     (s : Sides) (e : Event) (reply : Reply) (host : HostView) (pages : Pages)
@@ -49,14 +49,14 @@ hosts_refuse =
     → IsController e ≡ false → looks_at_completions e ≡ false → HostStep s.host s.pages e (events.Refused why touched) host pages
     → (behind s e (events.Refused why touched) host pages ≡ s) × Step (state_of s) e (events.Refused why touched) (state_of s)
 
--- Whatever was forged, the controller takes the tail that the host rings of a queue.
+-- Whatever was forged, the controller takes the tail that the host writes to a queue's doorbell.
 abbrev pub tails_are_heard : Type 0
 tails_are_heard =
     (s : Sides) (q : ℕ) (h : HostQueue) (c : ControllerQueue)
     → AreSides s → slice_get s.host.host.queues q ≡ Some h → slice_get s.controller.queues q ≡ Some c
     → with_tail h.ring.tail c ≡ with_side (record c.controller { ring = hearing_tail h.ring.tail c.controller.ring }) c
 
--- Where nothing was forged, and a completion waits in the completion ring of a queue that is in use, the controller takes the head behind it.
+-- Where nothing was forged, and a completion waits in the completion ring of a queue that is in use, the controller takes the head after it.
 abbrev pub heads_are_heard : Type 0
 heads_are_heard =
     (s : Sides) (q : ℕ) (h : HostQueue) (c : ControllerQueue)

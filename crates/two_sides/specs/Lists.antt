@@ -12,8 +12,8 @@ lists_keep_to_their_pages =
     (chain_pages data_pages : List ℕ) (m : Memory) (sgl1 : List ℕ) (parts : List Part) (dir : Direction) (need : ℕ)
     → AreApart chain_pages data_pages → IsListIn chain_pages data_pages m sgl1 parts → KeepsToPages chain_pages data_pages (course_of_list m sgl1 dir need)
 
--- A list whose parts are there and count just the bytes that are moved ends well, and the parts that are taken have the targets of its
--- parts, byte for byte: how they are cut, and that empty ones behind the last byte are left, is the walk's own.
+-- A list whose parts are there and count exactly the bytes that are moved ends well, and the parts that are taken have the targets of its
+-- parts, byte for byte: how they are cut, and that empty ones after the last byte are omitted, is the walk's own.
 abbrev pub lists_end_well : Type 0
 lists_end_well =
     (m : Memory) (sgl1 : List ℕ) (first : Descriptor) (parts : List Part) (dir : Direction) (need : ℕ)
@@ -29,7 +29,7 @@ long_lists_end_well =
     → (verdict_of_list m sgl1 dir need ≡ End)
     × (targets dir (parts_of_list m sgl1 dir need) ≡ take need (targets dir parts))
 
--- They may count less: then the list ends for want of a byte.
+-- They may count less: then the list ends for lack of a byte.
 abbrev pub short_lists_end : Type 0
 short_lists_end =
     (m : Memory) (sgl1 : List ℕ) (first : Descriptor) (parts : List Part) (dir : Direction) (need : ℕ)

@@ -24,7 +24,7 @@ abbrev pub rings_are_never_full : Type 0
 rings_are_never_full =
     (image : List ℕ) (made : List Made) (end : State) → TrustedRun image made end → All (λ m. IsTrue (not (is_full m.reply))) made
 
--- A submitted record's chain spells its parts, neighbours that join as one, from some descriptor, which is that of its entry wherever the entry still stands;
+-- A submitted record's chain spells its parts, neighbours that join as one, from some descriptor, which is that of its entry wherever the entry still exists;
 -- where it has no list its entry has zeros there.
 -- A record doesn't keep its entry: after the completion nobody reads the chain.
 abbrev pub entries_of : State → ℕ → ℕ → List SubEntry
@@ -54,13 +54,13 @@ chains_stay =
     → record_at old.host q cid ≡ Some r → IsTrue (is_submitted r.phase) → record_at new.host q cid ≡ Some r
     → IsTrue (is_among r.chain_pages p) → page_at new.memory p ≡ page_at old.memory p
 
--- Where nothing was forged, each step of the controller stays in what is allowed
+-- Where nothing was forged, each step of the controller stays within what is allowed
 abbrev pub trusted_steps_stay_allowed : Type 0
 trusted_steps_stay_allowed =
     (image : List ℕ) (made : List Made) (old new : State) (e : Event) (reply : Reply)
     → TrustedRun image made old → Step old e reply new → IsTrue (stays_allowed old reply && stays_own old e reply)
 
--- Where nothing was forged, an admin command stands at the controller once, and only where it is outstanding: not fetched, fetched, or completed
+-- Where nothing was forged, an admin command is at the controller at most once, and only where it is outstanding: not fetched, fetched, or completed
 abbrev pub admin_places : State → List ℕ
 admin_places s =
     map (λ e. e.cid) (option_map_or (λ at. at.unfetched) (slice_get s.controller.queues 0) [])
@@ -72,7 +72,7 @@ admin_commands_stand_once =
     (image : List ℕ) (made : List Made) (end : State) (cid : ℕ) → TrustedRun image made end
     → times cid (admin_places end) ≤ times cid (outstanding_on end.host 0)
 
--- Once something was forged: what the host is answered, and what its part and the memory become, hangs on nothing of the controller's part
+-- Once something was forged: what the host is answered, and what its part and the memory become, depends on nothing in the controller's part
 abbrev pub hosts_need_no_controller : Type 0
 hosts_need_no_controller =
     (s : State) (d : Controller) (e : Event) (reply : Reply) → s.trusted ≡ false → IsController e ≡ false → Permits s e reply
@@ -85,7 +85,7 @@ abbrev pub trusted_worlds_are_linked : Type 0
 trusted_worlds_are_linked = (image : List ℕ) (made : List Made) (s : State) → TrustedRun image made s → IsLinked s
 
 -- A submission queue that is live at the host is there at the controller: only a deletion that the host asked for, or a reset, takes it
--- away, and the host is told of that deletion's success alone.
+-- away, and the host is told only of that deletion's success.
 abbrev pub live_queues_are_there : Type 0
 live_queues_are_there =
     (image : List ℕ) (made : List Made) (s : State) (q : ℕ) (queue : HostQueue) → TrustedRun image made s → host_queue s q ≡ Some queue → is_live queue.state ≡ true → absent s q ≡ false
@@ -95,7 +95,7 @@ abbrev pub jobs_stand : Type 0
 jobs_stand =
     (image : List ℕ) (made : List Made) (end : State) (q cid : ℕ) (j : Job) → TrustedRun image made end → IsTrue (nat_lt 0 q) → job_at end q cid ≡ Some j → JobStands end j
 
--- A step that forges nothing and leaves a job there leaves its list the same list: the job's own walk, and anything else.
+-- A step that forges nothing and leaves a job there keeps its list the same: the job's own walk, and anything else.
 abbrev pub jobs_keep_their_lists : Type 0
 jobs_keep_their_lists =
     (image : List ℕ) (made : List Made) (old new : State) (e : Event) (reply : Reply) (q cid : ℕ) (before after : Job)

@@ -7,7 +7,7 @@ use Rattle.page_memory.specs.declared.page.Half.TheVariants.{Submission, Complet
 use Rattle.queue_pair.specs.Memory.{half_pages}
 use Rattle.two_sides.specs.{Sides.{Sides, state_of}, Ties.IsWorld}
 
--- where the halves of so many queues begin, one queue's behind the other's, from a page on
+-- where the halves of this many queues begin, one queue's after the other's, starting at a page
 abbrev pub halves_from : ℕ → ℕ → ℕ → List QueuePages
 halves_from page n zero = []
 halves_from page n (suc count) =

@@ -1,4 +1,4 @@
--- What a reset restores: whatever was forged, behind it both sides agree.
+-- What a reset restores: whatever was forged, after it both sides agree.
 use Rattle.std.specs.{List.AllByRecursion, Prelude.{◌≡◌, ℕ, ◌<◌, ◌≤◌, false, Some, List, length}}
 use Rattle.block_image.specs.Blocks.{IsImage}
 use Rattle.io_commands.specs.{Asked.Request, Requests.{is_admin, FitsRequest}, Values.IsGood}
@@ -28,11 +28,11 @@ pub record CanRecover (s : State) : Type 0 where
 abbrev pub openings_can_recover : Type 0
 openings_can_recover = (pages queues n s : ℕ) (image : List ℕ) → Opens pages queues n s → CanRecover (opening pages queues n s image)
 
--- so behind a reset every law of trusted states speaks of the world again
+-- so after a reset every law of trusted states applies to the world again
 abbrev pub resets_recover : Type 0
 resets_recover = (s : State) → CanRecover s → SidesAgree (after_reset s)
 
--- and behind each run, whatever was forged in it
+-- and after each run, whatever was forged in it
 abbrev pub every_run_recovers : Type 0
 every_run_recovers =
     (pages queues n s : ℕ) (image : List ℕ) (es : List Event) (replies : List Reply) (end : State)

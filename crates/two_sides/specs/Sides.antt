@@ -27,11 +27,11 @@ present (Some x ∷ xs) = x ∷ present xs
 abbrev pub posted_completion : ComEntry → PostedCompletion
 posted_completion e = record { cid = e.cid; status = e.status; dw0 = e.dw0; sq_head = e.sqhd }
 
--- the entries that stand between the controller's head and the host's tail
+-- the entries between the controller's head and the host's tail
 abbrev pub unfetched_between : Memory → HostRing → ControllerSide → List SubEntry
 unfetched_between m ring controller = present (entries_between m controller.sq controller.entries controller.ring.head ring.tail)
 
--- the completions that stand between the host's head and the controller's tail
+-- the completions between the host's head and the controller's tail
 abbrev pub completions_between : Memory → HostRing → ControllerSide → List ComEntry
 completions_between m ring controller = present (completions_from m controller.cq controller.entries ring.head controller.ring.tail)
 

@@ -1,4 +1,4 @@
--- Each call of one side, with what the other has of it, is a step of the machine, and leaves both tied as they were.
+-- Each call of one side, with what the other sees of it, is a step of the machine, and leaves both tied as they were.
 use Rattle.std.specs.{Option.option_map, Prelude.{◌≡◌, ◌≢◌, ℕ, Some, None, true, false, List, [], Result, length, is_some, slice_get}}
 use Rattle.controller_core.specs.{Completing.complete_refusal, Contents.{Contents, IsController}, Fetching.{Fetches, fetch_refusal}}
 use Rattle.controller_core.specs.{Resetting.reset as controller_reset, Walking.walk_refusal}
@@ -13,7 +13,7 @@ use Rattle.controller_core.specs.declared.refusal.Refusal as controller
 use Rattle.machine_model.specs.Events as events
 use Rattle.machine_model.specs.Step as machine
 
--- A step of the machine, behind which both sides are tied as a world's are.
+-- A step of the machine, after which both sides are tied as a world's are.
 abbrev pub StepsTo : Sides → Event → Reply → Sides → Type 0
 StepsTo s e reply new = Step (state_of s) e reply (state_of new) × IsWorld new
 
@@ -24,18 +24,18 @@ hosts_step =
     → IsWorld s → machine.IsController e ≡ false → forges e ≡ false → HostStep s.host s.pages e reply host pages → IsOver host pages
     → StepsTo s e reply (behind s e reply host pages)
 
--- the host finds a completion at a head, of a queue that is reaped, exactly where the machine has one
+-- the host finds a completion at the head of a queue that is reaped exactly where the machine has one
 abbrev pub completions_are_seen : Type 0
 completions_are_seen =
     (s : Sides) (q : ℕ) (h : HostQueue) → IsWorld s → slice_get s.host.host.queues q ≡ Some h → is_reaped h.state ≡ true
     → is_some (seen_entry (alone s.host s.pages) q) ≡ is_some (seen_entry (state_of s) q)
 
--- The pages that a call of the controller leaves are as many, and in whole.
+-- A call of the controller leaves as many pages, and those that are in whole.
 pub record LeavesPages (old new : Pages) : Type 0 where
   pub whole : AreWhole new
   pub count : length new ≡ length old
 
--- both sides behind a call of the controller
+-- both sides after a call of the controller
 abbrev pub served : Sides → Contents → Pages → Sides
 served s c pages = record s { controller = c; pages = pages }
 

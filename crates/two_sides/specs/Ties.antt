@@ -21,7 +21,7 @@ pub record ShareQueue (n q : ℕ) (h : HostQueue) (c : ControllerQueue) : Type 0
   pub entries : c.controller.entries ≡ n
   pub side : IsControllerSide c.controller
 
--- one after the other, from queue q on, and as many on either side
+-- one after the other, starting at queue q, and as many on either side
 abbrev pub ShareQueues : ℕ → ℕ → List HostQueue → List ControllerQueue → Type 0
 ShareQueues n q [] [] = Unit {0}
 ShareQueues n q [] (c ∷ cs) = ⊥
@@ -67,7 +67,7 @@ pub record ShareHalves (n : ℕ) (h : HostQueue) (c : ControllerQueue) : Type 0 
 abbrev pub IsOwned : ℕ → ComEntry → Type 0
 IsOwned q e = (e.sqid ≡ q) × (e.hints ≡ NONE)
 
--- The rings of queue q stand: what was posted, rung and taken on either side fits.
+-- The rings of queue q stand: what was posted, announced and taken on either side fits.
 pub record RingsStand (m : Memory) (q : ℕ) (h : HostQueue) (c : ControllerQueue) : Type 0 where
   pub fetched : is_in_range c.controller.entries h.ring.known_head h.ring.tail c.controller.ring.head ≡ true
   pub rung : is_in_range c.controller.entries c.controller.ring.head h.ring.tail c.controller.ring.bell ≡ true
@@ -83,8 +83,8 @@ pub record RingsStand (m : Memory) (q : ℕ) (h : HostQueue) (c : ControllerQueu
 abbrev pub first_completion_page : HostQueue → ℕ
 first_completion_page h = slice_index h.cq_pages 0
 
--- A queue whose completion ring is in use has halves where both sides have them, and its rings stand. Of any other nothing is said, since its rings are made anew
--- before they are used, but that a completion ring which the host has asked for and the controller has not made yet is as it was granted: no slot of it is new.
+-- A queue whose completion ring is in use has halves where both sides have them, and its rings stand. Nothing is said of any other, since its rings are made anew
+-- before they are used, except that a completion ring which the host has asked for and the controller has not made yet is as it was granted: no slot of it is new.
 pub record QueueStands (n : ℕ) (m : Memory) (q : ℕ) (h : HostQueue) (c : ControllerQueue) : Type 0 where
   pub halves : ShareHalves n h c
   pub rings : has_ring h c ≡ true → RingsStand m q h c
@@ -95,7 +95,7 @@ AllQueuesStand n m q [] cs = Unit {0}
 AllQueuesStand n m q (h ∷ hs) [] = Unit {0}
 AllQueuesStand n m q (h ∷ hs) (c ∷ cs) = QueueStands n m q h c × AllQueuesStand n m (suc q) hs cs
 
--- As long as a command has no verdict, its walk has to do what is left of its list behind the units that it did, in the memory as it is now.
+-- As long as a command has no verdict, its walk has to do what is left of its list after the units that it did, in the memory as it is now.
 abbrev pub WalkStands : Memory → ℕ → Work → Type 0
 WalkStands m done (Io job) =
     job.verdict ≡ None → job_course m job ≡ after_units done (course_of_list m job.entry.sgl1 (direction_of_entry job.entry) (need_of_entry job.entry))

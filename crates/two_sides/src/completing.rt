@@ -7,7 +7,7 @@ pub fn completes_are_the_machines()
     ensures { completes_step }
 {}
 
-/// Where nothing was forged, the controller refuses a completion for what the machine does.
+/// Where nothing was forged, the controller refuses a completion for the machine's cause.
 #[tactic(auto, using(crate::proofs::CompleteSteps::complete_refused_alike))]
 pub fn completes_refuse_as_the_machine()
     ensures { completes_refuse_alike }

@@ -3,8 +3,8 @@
 ghost use Rattle.two_sides.specs.Laws.{hosts_share_queues, forged_hosts_step, hosts_answer, hosts_refuse};
 ghost use Rattle.two_sides.specs.Stepping.{hosts_step};
 
-/// Whatever was forged: where both sides have equally many queues, and each at the controller has its number, as many entries as the host's
-/// and a side that fits them, a step of the host leaves it so.
+/// Whatever was forged: where both sides have the same number of queues, and each at the controller has its number, as many entries as the host's
+/// and a side that fits them, a step of the host keeps it so.
 #[tactic(auto, using(crate::proofs::Shared::share_queues))]
 pub fn hosts_keep_their_queues()
     ensures { hosts_share_queues }
@@ -26,7 +26,7 @@ pub fn hosts_refuse_as_the_machine()
     ensures { hosts_refuse }
 {}
 
-/// Each call of the host, with what the controller has of it, is a step of the machine, and leaves both sides tied as a world's are.
+/// Each call of the host, with what the controller sees of it, is a step of the machine, and leaves both sides tied as a world's are.
 pub fn hosts_are_the_machine()
     ensures { hosts_step }
 {}

@@ -22,8 +22,8 @@ pub fn law_of_positions()
     ensures runs { every_run_stays_in_rings }
 {}
 
-/// Each queue of the host has its halves until it gives them back, the pages of each one after the other, and none of their pages from
-/// then on: after every run from an opening, forged entries or not.
+/// Each queue of the host has its halves until it gives them back, the pages of each consecutive, and none of their pages from then on: after every
+/// run from an opening, forged entries or not.
 ///
 /// Each outstanding command has an identifier below its queue's entries less one, and an I/O command as many data and chain pages as its
 /// request wants. A sound state that is provided so stays so, whatever the step.
@@ -33,7 +33,7 @@ pub fn law_of_provisions()
     ensures runs { every_run_provides }
 {}
 
-/// Where nothing was forged, each admin command stands at the controller at most once, and only while it is outstanding.
+/// Where nothing was forged, each admin command is at the controller at most once, and only while it is outstanding.
 ///
 /// It is then not yet fetched, or a job, or completed.
 pub fn law_of_places()
@@ -57,20 +57,19 @@ pub fn law_of_memory()
     ensures courses { walks_go_as_in_the_pool }
 {}
 
-/// A walk of a list whose segments lie in chain pages and spell parts that lie in data pages, where no page is of both kinds, reads in
-/// the chain pages alone, and moves in the data pages alone.
+/// A walk of a list whose segments lie in chain pages and spell parts that lie in data pages, where no page is of both kinds, reads only in the chain
+/// pages, and moves only in the data pages.
 pub fn law_of_lists()
     ensures { lists_keep_to_their_pages }
 {}
 
-/// A list whose parts are there, and count just the bytes that the command moves, ends without a fault. What is taken on the way
+/// A list whose parts are there, and count exactly the bytes that the command moves, ends without a fault. What is taken on the way
 /// has the targets of its parts, byte for byte.
 pub fn law_of_ends()
     ensures { lists_end_well }
 {}
 
-/// A list may be longer than its data: it ends without a fault too, and what is taken has as many of the first of its targets as
-/// the command moves bytes.
+/// A list may be longer than its data: it ends without a fault too, and what is taken has as many of its first targets as the command moves bytes.
 pub fn law_of_longer_lists()
     ensures { long_lists_end_well }
 {}
@@ -80,15 +79,15 @@ pub fn law_of_shorter_lists()
     ensures { short_lists_end }
 {}
 
-/// Where nothing was forged, each queue that the controller has, and each that has a job, stands at the host with its halves.
+/// Where nothing was forged, each queue that the controller has, and each that has a job, is at the host with its halves.
 pub fn law_of_links()
     ensures { trusted_worlds_are_linked }
 {}
 
 /// Where nothing was forged, a submission queue that is live at the host is there at the controller.
 ///
-/// The controller gives a queue up only as a deletion that the host asked for succeeds, or at a reset, behind which the host has no I/O
-/// queue. Of that deletion the host reaps the success alone, so it never takes the queue for live until it is made again.
+/// The controller gives a queue up only as a deletion that the host asked for succeeds, or at a reset, after which the host has no I/O queue. Of that
+/// deletion the host reaps only the success, so it never takes the queue for live until it is made again.
 pub fn law_of_live_queues()
     ensures { live_queues_are_there }
 {}
@@ -101,8 +100,8 @@ pub fn law_of_trust()
     ensures unforged { trusted_ends_are_unforged }
 {}
 
-/// A reset leaves a trusted state whose sides agree, whatever was forged: what that takes holds in an opening, and each step keeps it
-/// (`law_of_order`). So behind it every law of `agreement` speaks of the machine again.
+/// A reset leaves a trusted state whose sides agree, whatever was forged: what that needs holds in an opening, and each step keeps it
+/// (`law_of_order`). So after it every law of `agreement` applies to the machine again.
 ///
 /// Each I/O command is outstanding as before, and held with status 0:08 where it was submitted.
 #[tactic(auto, using(crate::proofs::Agreed::runs_recover, crate::proofs::PoolBytes::trust_restored, machine_model::proofs::HostLeaves::io_left))]
@@ -115,7 +114,7 @@ pub fn law_of_resets()
 {}
 
 /// Each step keeps a state in order, forged entries or not: sound, each page that is in whole, both sides agreeing unless something
-/// was forged since the last reset, and fit to agree behind a reset. An opening is in order.
+/// was forged since the last reset, and fit to agree after a reset. An opening is in order.
 ///
 /// What it hands out is fit to be handed in again: the draft of a reserved command, and the pages of a collected one.
 #[tactic(auto, using(crate::proofs::Agreed::order_kept, crate::proofs::Served::reserved_is_proper, crate::proofs::Served::collected_is_proper))]
@@ -142,14 +141,14 @@ pub fn law_of_chains()
 /// Where nothing was forged, each job of an I/O queue is that of a submitted command, and its walk keeps to the command's
 /// pages and, where the command moves data, would end well.
 ///
-/// A step that forges nothing and leaves the job there leaves its list the same list.
+/// A step that forges nothing and leaves the job there keeps its list the same.
 pub fn law_of_jobs()
     ensures stand { jobs_stand }
     ensures keep { jobs_keep_their_lists }
 {}
 
 /// The slots of a queue, which the machine finds by the list of the queue's pages, are those that `queue_pair` finds in the memory
-/// from the first page on: their pages, their bytes, and what a post writes.
+/// starting at the first page: their pages, their bytes, and what a post writes.
 #[tactic(auto, using(crate::proofs::PoolBytes::entry_pages, crate::proofs::PoolBytes::completion_pages, crate::proofs::PoolBytes::entries_stand, crate::proofs::PoolBytes::completions_stand))]
 pub fn law_of_slots()
     ensures entry_pages { entries_lie_in_pages }

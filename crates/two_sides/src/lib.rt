@@ -1,8 +1,8 @@
 //! A host and a controller over one pool of pages are the machine, step by step, and a reset of both ties them again, whatever was forged.
 //!
-//! There is no code here: each public function has an empty body, and its clauses are what is proved. In [`agreement`] stand laws of states of the machine whose
-//! sides agree, in [`laws`] laws of every step and run that speak of both sides, of order, answers and trust, of resets, and of lists and slots in memory. The
-//! other functions say that a call of a side is a step of the machine.
+//! There is no code here: each public function has an empty body, and its clauses are what is proved. [`agreement`] has laws of states of the machine
+//! whose sides agree, [`laws`] has laws of every step and run that speak of both sides, of order, answers and trust, of resets, and of lists and
+//! slots in memory. The other functions say that a call of a side is a step of the machine.
 #![tactic(auto)]
 
 pub mod agreement;

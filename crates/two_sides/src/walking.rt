@@ -7,7 +7,7 @@ pub fn walks_are_the_machines()
     ensures { walks_step }
 {}
 
-/// Where nothing was forged, the controller refuses a walk for what the machine does.
+/// Where nothing was forged, the controller refuses a walk for the machine's cause.
 #[tactic(auto, using(crate::proofs::WalkSteps::walk_refused_alike))]
 pub fn walks_refuse_as_the_machine()
     ensures { walks_refuse_alike }

@@ -82,7 +82,7 @@ fetching e Flush is other = ap direction_by is
 fetching e Deallocate is other = ap direction_by is
 fetching e (Admin command) is other = absurd (no_admin e.opcode command is)
 
--- How a command ends hangs on its bytes only where it is a Compare.
+-- How a command ends depends on its bytes only where it is a Compare.
 pub judged : (stored : List ℕ) (e : SubEntry) (kind : Kind) (bytes other : List ℕ) (why : Option WalkFault) → kind_of_opcode e.opcode ≡ Some kind → (kind ≢ Read → bytes ≡ other)
     → ends_with stored e bytes why ≡ ends_with stored e other why
 judged stored e kind bytes other (Some fault) is same = refl

@@ -1,4 +1,4 @@
--- The bytes of pages as bytes of the memory, by what stands at each page.
+-- The bytes of pages as bytes of the memory, by what is at each page.
 use Rattle.std.proofs.Common.{◌≡◌, ◌≢◌, ℕ, zero, suc, ◌+◌, ◌*◌, ◌-◌, ◌/◌, ◌%◌, ◌<◌, ◌≤◌, ◌++◌, ◌∷◌, [], List, Option, Some, None, refl, ap, ◌∙◌, length, take, drop, get_or, arith, add-one, append-nil, drop-cons, inl, inr, sym}
 use Rattle.std.proofs.{Math.Path.fun_ext, lemmas.{Bool.{cases_eq, cases_lt}, Grind.common_steps}}
 use Rattle.std.proofs.lemmas.{List.{take-append-drop}, Option.slice_get-get_or}
@@ -7,7 +7,7 @@ use Rattle.page_memory.proofs.Bytes.{page_of_place, offset_of_place, bytes_at-ad
 use Rattle.page_memory.specs.{Memory.{Memory, bytes_at, written}, Pages.with_bytes}
 use Rattle.views.specs.Sparse.{byte_by}
 
--- what stands at each page
+-- what is at each page
 abbrev pub Pages : Type 0
 Pages = ℕ → Option (List ℕ)
 

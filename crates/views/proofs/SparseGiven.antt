@@ -6,7 +6,7 @@ use Rattle.page_memory.specs.Pages.{zero_page}
 use Rattle.views.specs.Sparse.{bytes_of_page, with_page}
 use Rattle.views.specs.declared.sparse_memory.GivenPage.{GivenPage}
 
--- how many pages stand before the one of a number
+-- how many pages come before the one of a number
 abbrev pub before : ℕ → List GivenPage → ℕ
 before n xs = position_or_len (λ page. page.number == n) xs
 
@@ -25,7 +25,7 @@ get_behind x xs k d = rw (one_more k) refl
 set_behind : (x y : GivenPage) (xs : List GivenPage) (k : ℕ) → set (x ∷ xs) (1 + k) y ≡ x ∷ set xs k y
 set_behind x y xs k = rw (one_more k) refl
 
--- where a page stands among those that are given
+-- where a page is among those that are given
 first_at : (n : ℕ) (xs : List GivenPage) (d : GivenPage) → before n xs < length xs → bytes_of_page xs n ≡ (get_or xs (before n xs) d).bytes
 first_at n [] d lt = absurd (omega arith)
 first_at n (x ∷ xs) d lt = elim (cases_Bool (x.number == n)) [

@@ -51,7 +51,7 @@ both_are_there pool addr n page at front back whole place border sum few is is' 
 
 -- What a write makes of a pool.
 
--- a page with bytes in place from an offset on
+-- a page with bytes in place starting at an offset
 abbrev pub put_bytes : List GivenPage → ℕ → ℕ → List ℕ → List GivenPage
 put_bytes given p at new = with_page given p (with_bytes (bytes_of_page given p) at new)
 

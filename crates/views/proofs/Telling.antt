@@ -76,7 +76,7 @@ begins at m sgl1 dir need w apart same = record {
   stands = stands_at_first at m sgl1 dir need w apart.reads same;
 }
 
--- a walk in the midst of its list, or at its end, and what it was as it began
+-- a walk in the middle of its list, or at its end, and what it was as it began
 pub record Standing (begun w : Walk) (before now : Memory) (bytes : List ℕ) : Type 0 where
   pub walked : (at : ℕ → Bool) (m : Memory) (c : Course) → IsApart at (direction_of begun) c → Goes at m c begun before → WalkedTo (is_over w) at m c w now
   pub direction : direction_of w ≡ direction_of begun
@@ -107,7 +107,7 @@ pub ends_so : (begun w : Walk) (before now : Memory) (bytes : List ℕ) (fault :
 ends_so begun w before now bytes fault stands is same at m c apart goes =
     subst (λ (f : Option WalkFault). Ends at m c f) (sym same) (subst (λ (b : Bool). WalkedTo b at m c w now) is (stands.walked at m c apart goes))
 
--- all places are places of a list's descriptors
+-- all addresses are addresses of a list's descriptors
 pub all_within : (c : Course) → ReadsWithin (λ q. true) c
 all_within (Closes v) = tt
 all_within (Does Stays rest) = all_within rest
@@ -129,7 +129,7 @@ bytes_same m m' place (suc n) h =
 
 -- One step
 
--- What a step takes where its unit reads a place, and where it does not: a descriptor of that place, or none from memory.
+-- What a step takes where its unit reads an address, and where it does not: a descriptor at that address, or none from memory.
 abbrev TakesBy : Act → Option Taken → Type 0
 TakesBy (Reads place) None = ⊥
 TakesBy (Reads place) (Some taken) = taken.at.place ≡ Some place
@@ -202,7 +202,7 @@ takes_in now sgl1 n w (Over fault) a rest reads e = absurd (does_some End a rest
 takes : (now : Memory) (sgl1 : List ℕ) (w : Walk) (a : Act) (rest : Course) → ReadsNext w → course now w ≡ Does a rest → TakesBy a (taken_next now sgl1 w)
 takes now sgl1 w a rest reads e = takes_in now sgl1 _ w w.state a rest (reads now) e
 
--- it has the bytes of its place
+-- it has the bytes at its address
 has_bytes : (now : Memory) (sgl1 : List ℕ) (n : ℕ) (next : Option DescriptorAt) (taken : Taken) → option_and_then (taken_at now sgl1 n) next ≡ Some taken → bytes_of now sgl1 taken.at.place ≡ Some taken.bytes
 has_bytes now sgl1 n None taken e = cc
 has_bytes now sgl1 n (Some it) taken e = by (nat_le it.number 4096) (bytes_of now sgl1 it.place) refl e
@@ -358,7 +358,7 @@ tells_none at m sgl1 c w stands next = record {
   places = refl;
 }
 
--- a walk in the midst of its list, or at its end, and what it told
+-- a walk in the middle of its list, or at its end, and what it told
 pub record Telling (begun w : Walk) (before now : Memory) (sgl1 : List ℕ) (told : List Taken) : Type 0 where
   pub tells : (at : ℕ → Bool) (m : Memory) (c : Course) → IsApart at (direction_of begun) c → TellsTaken at m sgl1 c [] begun before → ToldTo (is_over w) at m sgl1 c told w now
   pub direction : direction_of w ≡ direction_of begun

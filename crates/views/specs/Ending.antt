@@ -8,7 +8,7 @@ use Rattle.page_memory.specs.Memory.{Memory}
 use Rattle.views.specs.Stored.{bytes_moved, status_by}
 use Rattle.io_commands.specs.declared.block_size.BlockSize.{BlockSize}
 
--- the list of an entry whose blocks have such a size
+-- the list of an entry whose blocks have this size
 abbrev pub list_of : BlockSize → Memory → SubEntry → Course
 list_of size m e = course_of_list m e.sgl1 (direction_of_entry e) (bytes_moved size e)
 
@@ -31,7 +31,7 @@ abbrev pub WalkedTo : Bool → (ℕ → Bool) → Memory → Course → Walk →
 WalkedTo true at m c w now = Ends at m c (fault_of w)
 WalkedTo false at m c w now = Goes at m c w now
 
--- how a command ends whose list was walked, by what stands in its blocks, with the bytes that it then has
+-- how a command ends whose list was walked, by what is in its blocks, with the bytes that it then has
 abbrev pub ends_with : List ℕ → SubEntry → List ℕ → Option WalkFault → Status
 ends_with stored e bytes (Some fault) = cause_status fault.cause
 ends_with stored e bytes None = status_by stored bytes (kind_of_opcode e.opcode)

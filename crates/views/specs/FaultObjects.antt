@@ -45,7 +45,7 @@ fault_members Memory sentence = lone (codes "fault") (string (codes "Memory"))
 abbrev pub fault_object : CaseFault → List ℕ → Data
 fault_object fault sentence = object (fault_members fault sentence)
 
--- The line of a fault is put behind a text. Its sentence is for people: no clause spells it.
+-- The line of a fault is appended to a text. Its sentence is for people: no clause spells it.
 pub record PutsFault (fault : CaseFault) (before after : List ℕ) : Type 0 where
   pub sentence : List ℕ
   pub put : after ≡ before ++ line_of (fault_object fault sentence)

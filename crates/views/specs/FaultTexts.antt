@@ -18,7 +18,7 @@ IsSentence TooLong said = said ≡ unplaced_sentence TooLong
 IsSentence NoEntry said = said ≡ unplaced_sentence NoEntry
 IsSentence Memory said = said ≡ unplaced_sentence Memory
 
--- where it stands: the line of this number, or an empty one where a text has fewer, with carets
+-- where it is: the line of this number, or an empty one where a text has fewer, with carets
 abbrev pub place_text : List ℕ → CaseFault → List ℕ
 place_text text (Line number start end wrong) = line_text (unwrap_or (slice_get (lines text) (number - 1)) []) start end
 place_text text TooLong = []
@@ -29,6 +29,6 @@ abbrev pub sentence_line : Option (List ℕ) → List ℕ
 sentence_line None = []
 sentence_line (Some said) = said ++ (10 ∷ [])
 
--- WHAT IS TOLD: where it stands, and then a sentence
+-- WHAT IS TOLD: where it is, and then a sentence
 abbrev pub IsTold : List ℕ → CaseFault → List ℕ → Type 0
 IsTold text fault told = (said : Option (List ℕ)) × IsSentence fault said × (told ≡ place_text text fault ++ sentence_line said)

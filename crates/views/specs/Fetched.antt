@@ -7,19 +7,19 @@ use Rattle.sgl_descriptor.specs.declared.Direction.{Direction, TheVariants.Sourc
 use Rattle.views.specs.{Ending.list_of, Stored.bytes_moved}
 use Rattle.io_commands.specs.declared.block_size.BlockSize.{BlockSize}
 
--- bytes with so many that were found put over those from an offset on
+-- bytes with this many that were found put over those starting at an offset
 abbrev pub put_over : List ℕ → ℕ → ℕ → Option (List ℕ) → List ℕ
 put_over bytes offset n None = bytes
 put_over bytes offset n (Some found) = take offset bytes ++ (found ++ drop (offset + n) bytes)
 
--- what a course leaves of bytes, each of whose moves puts the bytes at a place in memory over some of them
+-- what a course leaves of bytes, each of whose moves puts the bytes at an address in memory over some of them
 abbrev pub fetched : Memory → Course → List ℕ → List ℕ
 fetched m (Closes v) bytes = bytes
 fetched m (Does Stays rest) bytes = fetched m rest bytes
 fetched m (Does (Reads place) rest) bytes = fetched m rest bytes
 fetched m (Does (Moves place n offset) rest) bytes = fetched m rest (put_over bytes offset n (bytes_at m place n))
 
--- THE BYTES of a command: zeros, over which its list puts what stands in memory
+-- THE BYTES of a command: zeros, over which its list puts what is in memory
 abbrev pub bytes_fetched : BlockSize → Memory → SubEntry → List ℕ
 bytes_fetched size m e = fetched m (list_of size m e) (replicate (bytes_moved size e) 0)
 

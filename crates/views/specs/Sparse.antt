@@ -14,7 +14,7 @@ abbrev pub with_page : List GivenPage → ℕ → List ℕ → List GivenPage
 with_page [] p bytes = record { number = p; bytes = bytes } ∷ []
 with_page (page ∷ rest) p bytes = if page.number == p then record { number = page.number; bytes = bytes } ∷ rest else page ∷ with_page rest p bytes
 
--- The pages of a pool: so many from a first one on, those that are given, and those that are out.
+-- The pages of a pool: this many starting at a first one, those that are given, and those that are out.
 pub record SparsePool : Type 0 where
   pub first : ℕ
   pub count : ℕ
@@ -27,7 +27,7 @@ is_of_pool pool p = nat_le pool.first p && nat_lt p (pool.first + pool.count)
 abbrev pub is_out : SparsePool → ℕ → Bool
 is_out pool p = list_any (λ out. out == p) pool.out
 
--- a page is there that is of the pool, and not out
+-- a page that is of the pool, and not out, is there
 abbrev pub is_there : SparsePool → ℕ → Bool
 is_there pool p = is_of_pool pool p && not (is_out pool p)
 
@@ -35,11 +35,11 @@ is_there pool p = is_of_pool pool p && not (is_out pool p)
 abbrev pub page_in : SparsePool → ℕ → Option (List ℕ)
 page_in pool p = if is_there pool p then Some (bytes_of_page pool.given p) else None
 
--- the byte at a place, by what stands at each page
+-- the byte at an address, by what is at each page
 abbrev pub byte_by : (ℕ → Option (List ℕ)) → Memory
 byte_by pages place = option_and_then (λ bytes. slice_get bytes (place % 4096)) (pages (page_of place))
 
--- THE BYTE at a place: nothing where the place is outside of the pool, or its page is out
+-- THE BYTE at an address: nothing where the address is outside of the pool, or its page is out
 unfoldable pub byte_in : SparsePool → Memory
 byte_in pool = byte_by (page_in pool)
 

@@ -12,7 +12,7 @@ use Rattle.views.specs.declared.explain.namespace.GivenBlock.{GivenBlock}
 abbrev pub bytes_moved : BlockSize → SubEntry → ℕ
 bytes_moved size e = block_bytes size * block_number e
 
--- the first failed field check of an entry, for a namespace of this number with so many blocks of such a size
+-- the first failed field check of an entry, for a namespace of this number with this many blocks of this size
 abbrev pub field_fault : ℕ → BlockSize → ℕ → SubEntry → Option Status
 field_fault namespace size blocks e =
     first_passing (
@@ -23,7 +23,7 @@ field_fault namespace size blocks e =
     ∷ (nat_lt blocks (first_block e + block_number e), LBA_OUT_OF_RANGE)
     ∷ [])
 
--- a block of so many zeros
+-- a block of this many zeros
 unfoldable pub zero_block : ℕ → List ℕ
 zero_block bytes = replicate bytes 0
 
@@ -31,20 +31,20 @@ abbrev pub bytes_by : ℕ → Option GivenBlock → List ℕ
 bytes_by bytes None = zero_block bytes
 bytes_by bytes (Some block) = take bytes block.bytes
 
--- the so many bytes of a block: those that it was given, or zeros
+-- this many bytes of a block: those that it was given, or zeros
 abbrev pub bytes_of_block : ℕ → List GivenBlock → ℕ → List ℕ
 bytes_of_block bytes given n = bytes_by bytes (find (λ block. block.number == n) given)
 
--- the bytes of so many blocks from a first one on
+-- the bytes of this many blocks starting at a first one
 abbrev pub blocks_from : ℕ → List GivenBlock → ℕ → ℕ → List ℕ
 blocks_from bytes given first zero = []
 blocks_from bytes given first (suc n) = blocks_from bytes given first n ++ bytes_of_block bytes given (first + n)
 
--- the bytes that stand in the blocks of an entry
+-- the bytes in the blocks of an entry
 abbrev pub stored_of : BlockSize → List GivenBlock → SubEntry → List ℕ
 stored_of size given e = blocks_from (block_bytes size) given (first_block e) (block_number e)
 
--- how a command ends whose list was accepted: a Compare fails where a byte differs from what stands in its blocks
+-- how a command ends whose list was accepted: a Compare fails where a byte differs from what is in its blocks
 abbrev pub status_by : List ℕ → List ℕ → Option Kind → Status
 status_by stored bytes (Some Compare) = if bytes_eq stored bytes then SUCCESS else COMPARE_FAILURE
 status_by stored bytes kind = SUCCESS

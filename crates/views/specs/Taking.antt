@@ -8,7 +8,7 @@ use Rattle.views.specs.declared.explain.list.Taken.{Taken}
 
 -- One descriptor
 
--- its 16 bytes: those at its place in memory, or, of the entry's own, which has no place there, the entry's
+-- its 16 bytes: those at its address in memory, or, of the entry's own, which has no address there, the entry's
 abbrev pub bytes_of : Memory → List ℕ → Option ℕ → Option (List ℕ)
 bytes_of m sgl1 None = Some sgl1
 bytes_of m sgl1 (Some place) = bytes_at m place 16
@@ -32,7 +32,7 @@ own = record { number = 1; place = None }
 
 -- All of a list
 
--- the places in memory of those that are told
+-- the addresses in memory of those that are told
 abbrev pub then_place : Option ℕ → List ℕ → List ℕ
 then_place None places = places
 then_place (Some place) places = place ∷ places
@@ -41,14 +41,14 @@ abbrev pub places_of : List Taken → List ℕ
 places_of [] = []
 places_of (taken ∷ rest) = then_place taken.at.place (places_of rest)
 
--- the places from which a course reads descriptors
+-- the addresses from which a course reads descriptors
 abbrev pub reads_of : Course → List ℕ
 reads_of (Closes v) = []
 reads_of (Does Stays rest) = reads_of rest
 reads_of (Does (Reads place) rest) = place ∷ reads_of rest
 reads_of (Does (Moves place n offset) rest) = reads_of rest
 
--- each has the bytes that stand at its place in this memory, or in the entry
+-- each has the bytes at its address in this memory, or in the entry
 abbrev pub HaveBytes : Memory → List ℕ → List Taken → Type 0
 HaveBytes m sgl1 told = AllByRecursion (λ taken. bytes_of m sgl1 taken.at.place ≡ Some taken.bytes) told
 

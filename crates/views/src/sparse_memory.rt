@@ -59,7 +59,7 @@ fn whole(array: &[u8; 4096]) -> &[u8]
     array.as_slice()
 }
 
-/// Overwrites bytes of a page, from an offset on.
+/// Overwrites bytes of a page, starting at an offset.
 fn overwrite(page: &mut [u8; 4096], at: usize, bytes: &[u8])
     requires { at + length bytes.now ≤ 4096 }
     ensures bytes { page.new ≡ with_bytes page.old at bytes.now }
@@ -68,14 +68,14 @@ fn overwrite(page: &mut [u8; 4096], at: usize, bytes: &[u8])
     page[at..at + bytes.len()].copy_from_slice(bytes);
 }
 
-/// Where the page of a number stands among those that are given.
+/// Where the page of a number is among those that are given.
 fn index_of(given: &[GivenPage], number: u64) -> Option<usize>
     ensures { result ≡ position (λ page. page.number == number) given.now }
 {
     given.iter().position(|page| page.number == number)
 }
 
-/// Fills a buffer with bytes of a page, from an offset on.
+/// Fills a buffer with bytes of a page, starting at an offset.
 fn copy_out(given: &[GivenPage], number: u64, at: usize, into: &mut [u8])
     requires { at + length into.old ≤ 4096 }
     ensures { into.new ≡ take (length into.old) (drop at (bytes_of_page given.now number)) }
@@ -86,7 +86,7 @@ fn copy_out(given: &[GivenPage], number: u64, at: usize, into: &mut [u8])
     }
 }
 
-/// Puts bytes in place of those of a page, from an offset on. There is room for one page more.
+/// Puts bytes in place of those of a page, starting at an offset. There is room for one more page.
 fn put_in(given: &mut Vec<GivenPage>, number: u64, at: usize, bytes: &[u8])
     requires fits { at + length bytes.now ≤ 4096 }
     requires room { vec_len given.old < vec_capacity given.old }
@@ -111,7 +111,7 @@ fn put_in(given: &mut Vec<GivenPage>, number: u64, at: usize, bytes: &[u8])
 }
 
 impl SparseMemory {
-    /// A pool of so many pages from a first one on, all in and zero, with nothing touched.
+    /// A pool of this many pages starting at a first one, all in and zero, with nothing touched.
     ///
     /// # Errors
     ///
@@ -181,7 +181,7 @@ impl SparseMemory {
         Ok(())
     }
 
-    /// Puts bytes in place of those of a page, from an offset on.
+    /// Puts bytes in place of those of a page, starting at an offset.
     ///
     /// # Errors
     ///

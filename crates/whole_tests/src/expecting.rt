@@ -3,11 +3,6 @@
 use std::fmt::Debug;
 use std::process::Abort;
 
-/// Ends the test where a value is not the one that is wanted, and tells both.
-pub(crate) fn same<T: PartialEq + Debug + Drop>(rt: &impl Abort, found: T, wanted: T) {
-    assert_eq!(rt; found, wanted);
-}
-
 /// Ends the test where a value is not the one that is wanted, and tells both and `at` what that was.
 pub(crate) fn same_at<T: PartialEq + Debug + Drop>(
     rt: &impl Abort,
@@ -15,5 +10,7 @@ pub(crate) fn same_at<T: PartialEq + Debug + Drop>(
     found: T,
     wanted: T,
 ) {
-    assert_eq!(rt; found, wanted, "at {at:?}");
+    if found != wanted {
+        panic!(rt; "at {at:?}: found {found:?}, wanted {wanted:?}");
+    }
 }

@@ -1,30 +1,22 @@
-//! What no clause says of the program: scripts, jobs and a session that are cut, and over readers and writers that fail; lines that are changed word by
-//! word; words that are no text. There are tests alone, so that they do not prove the program once more.
+//! What no clause says of the program: scripts, jobs and a session that are cut, and over readers and writers that fail; images that cannot be read; lines
+//! that are changed word by word; what a load measures. There are tests alone, so that they do not prove the program once more.
 #![tactic(auto)]
 
 #[cfg(test)]
-mod checked;
-#[cfg(test)]
-mod command_words;
-#[cfg(test)]
-mod cuts;
+mod door;
 #[cfg(test)]
 mod expecting;
 #[cfg(test)]
-mod first_script;
+mod failing;
 #[cfg(test)]
-mod job_rounds;
-#[cfg(test)]
-mod job_runs;
+mod images;
 #[cfg(test)]
 mod load_figures;
 #[cfg(test)]
+mod runs;
+#[cfg(test)]
 mod same_faults;
 #[cfg(test)]
-mod script_runs;
-#[cfg(test)]
-mod shell_sessions;
+mod stored;
 #[cfg(test)]
 mod transcript_texts;
-#[cfg(test)]
-mod usual;

@@ -1,56 +1,42 @@
-//! What a load measures, over a clock of which each look is known: its figures as JSON and as lines for people.
+//! What a load measures, over a clock of which each look is known.
 
 ghost use Rattle.std.specs.Prelude.{◌≤◌};
-ghost use Rattle.script_cli.specs.Loads.{FitsLoad};
 
-use crate::expecting::same;
-use crate::usual::{USUAL, zeros};
-use load::{Figures, Ran, Report, Server, run_load};
+use crate::expecting::same_at;
+use block_image::Image;
+use load::{Figures, Report, Server, run_load};
 use script_cli::workload::{Load, OutputFormat, Pattern};
-use std::alloc::Global;
+use std::alloc::AllocGlobal;
 use std::fmt::Display;
 use std::io;
+use std::process::Abort;
 use std::rt::Clock;
 use std::sync::Wait;
 use std::sync::atomic::{AtomicU64, Ordering};
-use std::test::Fail;
 use std::thread::Threads;
 use std::time::Duration;
+use step_core::Config;
 
-/// A runtime with a clock that goes on as it is looked at.
+/// A runtime with a clock that goes on as it is looked at. It says nothing on standard error.
 #[derive(Drop)]
 struct Paced<'a, R> {
     rt: &'a R,
     looks: AtomicU64,
 }
 
-/// What look number `look` shows, in microseconds: from one look to the next it is one, from the looks on that are named here 4, 30, 200 and
-/// 3,000.
-fn micros_at(look: u64) -> u64 {
-    let slowed = [(148, 3), (260, 26), (290, 170), (301, 2_800)];
-    let mut micros = look;
-    for (from, more) in slowed {
-        micros = micros.wrapping_add(look.saturating_sub(from).wrapping_mul(more));
-    }
-    micros
-}
-
 impl<R> Clock for Paced<'_, R> {
+    /// From one look to the next it is a microsecond; from the looks on that are named here 4, 30, 200 and 3,000.
     fn monotonic(&self) -> io::Result<Duration> {
         let look = self.looks.fetch_add(1, Ordering::SeqCst);
-        Ok(Duration::from_micros(micros_at(look)))
+        let mut micros = look;
+        for (from, more) in [(148, 3), (260, 26), (290, 170), (301, 2_800)] {
+            micros = micros.wrapping_add(look.saturating_sub(from).wrapping_mul(more));
+        }
+        Ok(Duration::from_micros(micros))
     }
 
     fn since_1970(&self) -> io::Result<Duration> {
         self.monotonic()
-    }
-}
-
-impl<R: Alloc> Alloc for Paced<'_, R> {
-    type A = R::A;
-
-    fn alloc(&self) -> R::A {
-        self.rt.alloc()
     }
 }
 
@@ -76,67 +62,37 @@ impl Report for Nobody {
     fn take(&mut self, _so_far: &Figures<'_>) {}
 }
 
-/// A hundred commands of two blocks, of one submitter, with so many in flight. The clock is looked at as they begin, before each round of 32 (each
-/// uses every block once), and twice as they end; for each command as it gets its pages, as it is submitted, and as it gives its pages back.
-fn load_of(pattern: Pattern, depth: u16) -> Load<'static>
-    requires some { 1 ≤ depth }
-    requires little { depth ≤ 256 }
-    ensures { FitsLoad result }
-{
-    Load {
-        pattern,
-        reads: 50,
-        command_blocks: 2,
-        size: None,
-        submitters: 1,
-        depth,
-        log_limit: None,
-        seed: 0,
-        count: Some(100),
-        runtime: None,
-        verify: false,
-        quiet: true,
-        stats: None,
-        interval: None,
-        format: OutputFormat::Json,
-    }
-}
+/// 16 pages and one I/O queue of 4 entries.
+const USUAL: Config = Config {
+    pages: 16,
+    queues: 1,
+    entries: 4,
+    segment: 256,
+};
 
-/// What a load measures.
-fn ran<R: AllocGlobal + Eprint + Threads + Wait + Sync>(
-    rt: &R,
-    pattern: Pattern,
-    depth: u16,
-) -> Result<Ran, Fail>
-    requires some { 1 ≤ depth }
-    requires little { depth ≤ 256 }
-{
-    let paced = Paced {
-        rt,
-        looks: AtomicU64::new(0),
-    };
-    let image = zeros(rt.alloc())?;
-    let mut out = Vec::new(rt.alloc());
-    let load = load_of(pattern, depth);
-    let server = Server::Ringer;
-    match run_load(
-        &paced,
-        USUAL,
-        image,
-        &load,
-        server,
-        false,
-        &mut Nobody,
-        &mut out,
-    ) {
-        Ok(ran) => Ok(ran),
-        Err(_) => Err(Fail::from("it did not run to its end")),
-    }
-}
+/// What is before the reads, between them and the writes, and after these.
+const TEXTS: [&str; 3] = [
+    r#"{
+  "nvmesgl version": "1",
+  "runtime_ns": 18696000,
+  "commands": {
+    "done": 100,
+    "refused": 0,
+    "failed": 0,
+    "verified": 0,
+    "differ": 0
+  },
+  "jobs": [
+    {
+      "jobname": "load",
+      "read": "#,
+    ",\n      \"write\": ",
+    "\n    }\n  ]\n}\n",
+];
 
-/// The direction of all commands. The first took 2 microseconds and the last 6,000. Up to half, nine tenths, 99 and 99.9 hundredths of them took
-/// 8, 60, 400 and 6,000 at most, and to a sixteenth more.
-const BUSY: &str = r#"{
+/// The direction of all commands, one of them in flight. The first took 2 microseconds and the last 6,000. Up to half, nine tenths, 99 and 99.9
+/// hundredths of them took 8, 60, 400 and 6,000 at most, and to a sixteenth more.
+const ONE_IN_FLIGHT: &str = r#"{
         "io_bytes": 102400,
         "bw_bytes": 5477107,
         "iops": 5348,
@@ -153,6 +109,28 @@ const BUSY: &str = r#"{
             "90.000000": 61439,
             "99.000000": 409599,
             "99.900000": 6000000
+          }
+        }
+      }"#;
+
+/// Three in flight: each has its pages for eight looks, but for the first and the last two of a round.
+const THREE_IN_FLIGHT: &str = r#"{
+        "io_bytes": 102400,
+        "bw_bytes": 5477107,
+        "iops": 5348,
+        "runtime": 18,
+        "total_ios": 100,
+        "clat_ns": {
+          "min": 4000,
+          "max": 9200000,
+          "mean": 255210,
+          "stddev": 1206442,
+          "N": 100,
+          "percentile": {
+            "50.000000": 23551,
+            "90.000000": 245759,
+            "99.000000": 6815743,
+            "99.900000": 9200000
           }
         }
       }"#;
@@ -179,64 +157,80 @@ const IDLE: &str = r#"{
         }
       }"#;
 
-/// The whole text as JSON.
-fn json_of(alloc: Global, read: &str, write: &str) -> Result<String, Fail> {
-    let mut text = String::new(alloc);
-    text.push_str(
-        r#"{
-  "nvmesgl version": "1",
-  "runtime_ns": 18696000,
-  "commands": {
-    "done": 100,
-    "refused": 0,
-    "failed": 0,
-    "verified": 0,
-    "differ": 0
-  },
-  "jobs": [
-    {
-      "jobname": "load",
-      "read": "#,
-    )?;
-    text.push_str(read)?;
-    text.push_str(",\n      \"write\": ")?;
-    text.push_str(write)?;
-    text.push_str("\n    }\n  ]\n}\n")?;
-    Ok(text)
+/// A hundred commands of two blocks, of one submitter.
+const LOAD: Load<'static> = Load {
+    pattern: Pattern::Read,
+    reads: 50,
+    command_blocks: 2,
+    size: None,
+    submitters: 1,
+    depth: 1,
+    log_limit: None,
+    seed: 0,
+    count: Some(100),
+    runtime: None,
+    verify: false,
+    quiet: true,
+    stats: None,
+    interval: None,
+    format: OutputFormat::Json,
+};
+
+/// Sees what is measured of commands, with this many in flight. The clock is looked at as they begin, before each round of 32 (each uses every block once),
+/// and twice as they end; for each command as it gets its pages, as it is submitted, and as it gives its pages back.
+fn see<R: Abort + AllocGlobal + Eprint + Sync + Threads + Wait>(
+    rt: &R,
+    pattern: Pattern,
+    depth: u16,
+    reads: &'static str,
+    writes: &'static str,
+)
+    requires some { 1 ≤ depth }
+    requires little { depth ≤ 256 }
+{
+    let alloc = rt.alloc();
+    let load = Load {
+        pattern,
+        depth,
+        ..LOAD
+    };
+    let Ok(image) = Image::zeroed(alloc, 64) else {
+        panic!(rt; "no image");
+    };
+    let (paced, server) = (
+        (
+            Paced {
+                rt,
+                looks: AtomicU64::new(0),
+            },
+            alloc,
+        ),
+        Server::Ringer,
+    );
+    let mut out = Vec::new(alloc);
+    let Ok(ran) = run_load(
+        &paced,
+        USUAL,
+        image,
+        &load,
+        server,
+        false,
+        &mut Nobody,
+        &mut out,
+    ) else {
+        panic!(rt; "it did not run to its end");
+    };
+    let found = ran.figures().json(alloc, "1").expect(rt, "memory");
+    let [before, between, after] = TEXTS;
+    let wanted = [before, reads, between, writes, after]
+        .concat(alloc)
+        .expect(rt, "memory");
+    same_at(rt, depth, found.as_str(), wanted.as_str());
 }
 
-/// The lines for people where one command is in flight.
-const LINES: &str = "5348 commands a second, 5.2 MiB a second, 18 ms
-read  us: min 2.0, mean 83.9, 50% 8.1, 90% 61.4, 99% 409.5, 99.9% 6000.0, max 6000.0
-";
-
 #[test]
-fn reads_are_measured(rt: HostRuntime) -> Result<(), Fail> {
-    let ran = ran(&rt, Pattern::Read, 1)?;
-    let json = ran.figures().json(rt.alloc(), "1")?;
-    let wanted = json_of(rt.alloc(), BUSY, IDLE)?;
-    same(&rt, json.as_str(), wanted.as_str());
-    same(&rt, ran.summary(rt.alloc())?.as_str(), LINES);
-    Ok(())
-}
-
-#[test]
-fn writes_are_measured(rt: HostRuntime) -> Result<(), Fail> {
-    let ran = ran(&rt, Pattern::Write, 1)?;
-    let json = ran.figures().json(rt.alloc(), "1")?;
-    let wanted = json_of(rt.alloc(), IDLE, BUSY)?;
-    same(&rt, json.as_str(), wanted.as_str());
-    Ok(())
-}
-
-/// The lines for people where three commands are in flight: each has its pages for eight looks, but for the first and the last two of a round.
-const LINES_OF_THREE: &str = "5348 commands a second, 5.2 MiB a second, 18 ms
-read  us: min 4.0, mean 255.2, 50% 23.5, 90% 245.7, 99% 6815.7, 99.9% 9200.0, max 9200.0
-";
-
-#[test]
-fn three_in_flight_have_their_pages_longer(rt: HostRuntime) -> Result<(), Fail> {
-    let ran = ran(&rt, Pattern::Read, 3)?;
-    same(&rt, ran.summary(rt.alloc())?.as_str(), LINES_OF_THREE);
-    Ok(())
+fn commands_are_measured(rt: HostRuntime) {
+    see(&rt, Pattern::Read, 1, ONE_IN_FLIGHT, IDLE);
+    see(&rt, Pattern::Write, 1, IDLE, ONE_IN_FLIGHT);
+    see(&rt, Pattern::Read, 3, THREE_IN_FLIGHT, IDLE);
 }

@@ -1,11 +1,11 @@
 //! What is told of a line is the fault that the parser has: over lines of each form, cut after each byte, with a word left away, doubled, or
 //! another one in its place.
 
+use crate::expecting::same_at;
 use job_cli::read_jobs;
-use script_cli::{LineFault, ScriptFault, VERBS, read_script};
-use std::alloc::{AllocError, Global};
-use std::test::Fail;
-use test_support::Seen;
+use script_cli::{ScriptFault, VERBS, read_script};
+use std::alloc::AllocGlobal;
+use std::process::Abort;
 use texts::faults::{Grammar, find, form_text};
 
 /// A line of each form of `steps`.
@@ -33,8 +33,9 @@ const JOBS: [&str; 5] = [
     "# a comment",
 ];
 
-/// Words that may stand where another is wanted.
-const WORDS: [&[u8]; 28] = [
+/// Words that may stand where another is wanted, or before it; none, so that the other one is left away.
+const WORDS: [&[u8]; 29] = [
+    b"",
     b"0",
     b"3",
     b"65535",
@@ -65,145 +66,82 @@ const WORDS: [&[u8]; 28] = [
     b"00112233445566778899AABBCCDDEEFF",
 ];
 
-/// The fault that the parser has of a line.
-fn parsed(alloc: Global, grammar: Grammar, line: &[u8]) -> Result<Option<LineFault>, AllocError> {
-    let why = match grammar {
-        Grammar::Steps => read_script(alloc, line).err(),
-        Grammar::Jobs(submitters) => read_jobs(alloc, line, submitters).err(),
+/// Sees that what is told of a line, put together from its parts, is the fault that the parser has of it.
+fn see<R: Abort + AllocGlobal>(rt: &R, grammar: Grammar, parts: &[&[u8]]) {
+    let alloc = rt.alloc();
+    let line = parts.concat(alloc).expect(rt, "memory");
+    let read = match grammar {
+        Grammar::Steps => read_script(alloc, &line).err(),
+        Grammar::Jobs(submitters) => read_jobs(alloc, &line, submitters).err(),
     };
-    match why {
-        None => Ok(None),
-        Some(ScriptFault::Line { number: _, fault }) => Ok(Some(fault)),
-        Some(_) => Err(AllocError),
-    }
+    let wanted = match read {
+        None => None,
+        Some(ScriptFault::Line { number: _, fault }) => Some(fault),
+        Some(_) => panic!(rt; "memory"),
+    };
+    let found = match find(alloc, grammar, &line).expect(rt, "memory") {
+        None => None,
+        Some(found) => Some(found.fault),
+    };
+    same_at(rt, line.as_slice(), found, wanted);
 }
 
-/// Sees that both have the same fault of a line.
-fn see(alloc: Global, seen: &mut Seen, grammar: Grammar, line: &[u8]) -> Result<(), AllocError> {
-    let wanted = parsed(alloc, grammar, line)?;
-    let found = find(alloc, grammar, line)?;
-    seen.same_at(line, found.map(|found| found.fault), wanted);
-    Ok(())
-}
-
-/// What becomes of a word of a line.
-#[derive(Clone, Copy)]
-enum Change {
-    /// It is left away.
-    Gone,
-    /// It stands twice.
-    Twice,
-    /// Another stands in its place.
-    Other(&'static [u8]),
-    /// Another stands before it.
-    Behind(&'static [u8]),
-}
-
-/// Puts a word behind a line.
-fn put_word(line: &mut Vec<u8>, word: &[u8]) -> Result<(), AllocError> {
-    line.push(b' ')?;
-    line.extend_from_slice(word)?;
-    Ok(())
-}
-
-/// Puts a word behind a line, changed.
-fn put_changed(line: &mut Vec<u8>, word: &[u8], change: Change) -> Result<(), AllocError> {
-    match change {
-        Change::Gone => Ok(()),
-        Change::Twice => {
-            put_word(line, word)?;
-            put_word(line, word)
+/// Sees a line cut after each byte, and with each of its words left away, doubled, and with another one in its place or before it.
+fn see_changed<R: Abort + AllocGlobal>(rt: &R, grammar: Grammar, line: &[u8]) {
+    let mut start = 0;
+    for end in 0..=line.len() {
+        let (before, rest) = line.split_at(end);
+        see(rt, grammar, &[before]);
+        let Some((front, word)) = before.split_at_checked(start) else {
+            continue;
+        };
+        match rest.first() {
+            Some(byte) if !byte.is_ascii_whitespace() => continue,
+            _ => start = end.saturating_add(1),
         }
-        Change::Other(other) => put_word(line, other),
-        Change::Behind(other) => {
-            put_word(line, other)?;
-            put_word(line, word)
+        see(rt, grammar, &[front, word, b" ", word, rest]);
+        for other in WORDS {
+            see(rt, grammar, &[front, other, rest]);
+            see(rt, grammar, &[front, other, b" ", word, rest]);
         }
     }
-}
-
-/// A line with its n-th word changed.
-fn changed(alloc: Global, line: &str, n: usize, change: Change) -> Result<Vec<u8>, AllocError> {
-    let mut out = Vec::new(alloc);
-    for (i, word) in line.split_whitespace().enumerate() {
-        if i == n {
-            put_changed(&mut out, word.as_bytes(), change)?;
-        } else {
-            put_word(&mut out, word.as_bytes())?;
-        }
-    }
-    Ok(out)
-}
-
-/// Sees a line with each of its words changed.
-fn see_other_words(
-    alloc: Global,
-    seen: &mut Seen,
-    grammar: Grammar,
-    line: &str,
-) -> Result<(), AllocError> {
-    for n in 0..line.split_whitespace().count() {
-        for change in [Change::Gone, Change::Twice] {
-            see(alloc, seen, grammar, &changed(alloc, line, n, change)?)?;
-        }
-        for word in WORDS {
-            for change in [Change::Other(word), Change::Behind(word)] {
-                see(alloc, seen, grammar, &changed(alloc, line, n, change)?)?;
-            }
-        }
-    }
-    Ok(())
-}
-
-/// Sees lines of a grammar, cut and changed.
-fn see_all(
-    alloc: Global,
-    seen: &mut Seen,
-    grammar: Grammar,
-    lines: &[&str],
-) -> Result<(), AllocError> {
-    for line in lines {
-        for cut in 0..=line.len() {
-            see(alloc, seen, grammar, &line.as_bytes()[..cut])?;
-        }
-        see_other_words(alloc, seen, grammar, line)?;
-    }
-    Ok(())
 }
 
 #[test]
-fn the_fault_is_the_parsers(rt: HostRuntime) -> Result<(), Fail> {
-    let mut seen = Seen::new(rt.alloc());
-    see_all(rt.alloc(), &mut seen, Grammar::Steps, &STEPS)?;
-    see_all(rt.alloc(), &mut seen, Grammar::Jobs(3), &JOBS)?;
-    let long = vec![in rt.alloc(); b' '; 16_385]?;
-    see(rt.alloc(), &mut seen, Grammar::Steps, &long)?;
-    see(rt.alloc(), &mut seen, Grammar::Jobs(3), &long)?;
-    Ok(seen.end()?)
+fn the_fault_is_the_parsers(rt: HostRuntime) {
+    for (grammar, lines) in [
+        (Grammar::Steps, STEPS.as_slice()),
+        (Grammar::Jobs(3), JOBS.as_slice()),
+    ] {
+        for line in lines {
+            see_changed(&rt, grammar, line.as_bytes());
+        }
+        see(&rt, grammar, &[[b' '; 16_385].as_slice()]);
+    }
 }
 
 /// The form of each verb, with a number for each word, is what the parser takes of it: no word less and no word more.
 #[test]
-fn forms_are_what_is_parsed(rt: HostRuntime) -> Result<(), Fail> {
-    let mut seen = Seen::new(rt.alloc());
+fn forms_are_what_is_parsed(rt: HostRuntime) {
     for verb in VERBS {
-        let form = form_text(rt.alloc(), verb)?;
+        let form = form_text(rt.alloc(), verb).expect(&rt, "memory");
         let mut line = Vec::new(rt.alloc());
         for word in form.as_str().split_whitespace() {
-            line.extend_from_slice(match word {
+            let word = match word {
                 "HEX" => b"00112233445566778899AABBCCDDEEFF".as_slice(),
                 "KIND" => b"read",
                 "PIECE.." => b"0+512",
                 "Q" | "CID" | "SLOT" | "SLBA" | "BLOCKS" => b"1",
                 name => name.as_bytes(),
-            })?;
-            line.push(b' ')?;
+            };
+            line.extend_from_slice(word).expect(&rt, "memory");
+            line.push(b' ').expect(&rt, "memory");
         }
-        seen.same_at(
+        same_at(
+            &rt,
             verb.name(),
-            parsed(rt.alloc(), Grammar::Steps, &line)?,
-            None,
+            read_script(rt.alloc(), &line).is_ok(),
+            true,
         );
     }
-    Ok(seen.end()?)
 }

@@ -56,21 +56,21 @@ module _ {A : Type 0} where
   module _ (s : State) (old mid : Values A) (q cid : ℕ) (d : DraftContents) (b : IsBench s old) (out : IsOut old q cid (value.Draft d) mid) where
     pub fills : (bytes : List ℕ) (answer : Reply) (d' : DraftContents) (new : Values A) → FillsDraft d bytes answer d' → new ≡ record mid { rows = with_value mid.rows q cid (Some (value.Draft d')) }
         → Fills (table_with s old) q cid bytes (draft_of q cid (table_with s old).drafts) answer (table_with s new)
-    fills bytes answer d' new is left = rw (found_draft s old mid q cid d b out) (go answer is)
+    fills bytes answer d' new is left = rw (found_draft s old mid q cid d b out) (by_answer answer is)
       where
-        go : (answer : Reply) → FillsDraft d bytes answer d' → Fills (table_with s old) q cid bytes (Some d) answer (table_with s new)
-        go reply.Accepted is = (is.0, left_changed s old mid q cid d b out (filled_draft bytes) d' new is.1 left)
-        go (reply.NotFilled why) is = (is.0, left_same s old mid q cid d b out d' new is.1 left)
-        go answer is = absurd is
+        by_answer : (answer : Reply) → FillsDraft d bytes answer d' → Fills (table_with s old) q cid bytes (Some d) answer (table_with s new)
+        by_answer reply.Accepted is = (is.0, left_changed s old mid q cid d b out (filled_draft bytes) d' new is.1 left)
+        by_answer (reply.NotFilled why) is = (is.0, left_same s old mid q cid d b out d' new is.1 left)
+        by_answer answer is = absurd is
 
     pub builds : (answer : Reply) (d' : DraftContents) (new : Values A) → BuildsDraft d answer d' → new ≡ record mid { rows = with_value mid.rows q cid (Some (value.Draft d')) }
         → Builds (table_with s old) q cid (draft_of q cid (table_with s old).drafts) answer (table_with s new)
-    builds answer d' new is left = rw (found_draft s old mid q cid d b out) (go answer is)
+    builds answer d' new is left = rw (found_draft s old mid q cid d b out) (by_answer answer is)
       where
-        go : (answer : Reply) → BuildsDraft d answer d' → Builds (table_with s old) q cid (Some d) answer (table_with s new)
-        go reply.Accepted is = left_changed s old mid q cid d b out built d' new is left
-        go (reply.Refused refusal.Memory []) is = left_same s old mid q cid d b out d' new is left
-        go answer is = absurd is
+        by_answer : (answer : Reply) → BuildsDraft d answer d' → Builds (table_with s old) q cid (Some d) answer (table_with s new)
+        by_answer reply.Accepted is = left_changed s old mid q cid d b out built d' new is left
+        by_answer (reply.Refused refusal.Memory []) is = left_same s old mid q cid d b out d' new is left
+        by_answer answer is = absurd is
 
     pub fills_kept : (bytes : List ℕ) (answer : Reply) (d' : DraftContents) (new : Values A) → FillsDraft d bytes answer d' → new ≡ record mid { rows = with_value mid.rows q cid (Some (value.Draft d')) } → IsBench s new
     fills_kept bytes reply.Accepted d' new is left = kept_name s old mid q cid d b out d' new (ap (λ (x : DraftContents). x.q) is.1) (ap (λ (x : DraftContents). x.cid) is.1) left
@@ -157,7 +157,7 @@ module _ {A : Type 0} where
         filter_map-append (λ (r : Row (Option (CommandValue A))). as_finished r.value) (without old.rows q cid) (record { q = q; cid = cid; value = Some (value.Finished f) } ∷ [])
         ∙ ap (λ (xs : List FinishedContents). xs ++ f ∷ []) (taken_other as_finished old.rows q cid (Some (value.Ticket ticket)) out.there refl)
 
-    -- the finished command stands behind the others
+    -- the finished command comes after the others
     pub collected_last : (world : State) (f : FinishedContents) (new : Values A) → new ≡ with_row (record mid { rows = without mid.rows q cid }) q cid (Some (value.Finished f))
         → (table_with world new).finished ≡ (table_with s old).finished ++ f ∷ []
     collected_last world f new left = ap (λ (v : Values A). (table_with world v).finished) (put_next old mid q cid (value.Ticket ticket) out (value.Finished f) new left) ∙ last_finished f
@@ -250,7 +250,7 @@ touch_more b mid new [] (first ∷ answers) step answer so does touches = absurd
 touch_more b mid new (what ∷ steps) [] step answer so does touches = absurd so
 touch_more b mid new (what ∷ steps) (first ∷ answers) step answer so does touches = (so.0, so.1, so.2, touch_more so.0 mid new steps answers step answer so.3 does touches)
 
--- the pages of the command behind others
+-- the pages of the command after others
 pub pages_of_last : (others : List FinishedContents) (f : FinishedContents) → last_pages (others ++ f ∷ []) ≡ length f.data_pages + length f.chain_pages
 pages_of_last [] f = refl
 pages_of_last (g ∷ []) f = refl

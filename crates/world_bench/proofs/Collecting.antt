@@ -18,10 +18,10 @@ use Rattle.world_bench.specs.Collecting.{CollectsOnce}
 
 -- what is collected has a ticket
 ticketed : (t new : Table) (q cid : ℕ) (status : Status) (hints : Hints) → Does t (step.Collect q cid) (reply.Collected status hints) new → list_any (is_ticket q cid) t.tickets ≡ true
-ticketed t new q cid status hints does = go (list_any (is_ticket q cid) t.tickets) does where
-  go : (b : Bool) → DoesBy (if b then Some (events.Collect q cid) else None) t (step.Collect q cid) (reply.Collected status hints) new → b ≡ true
-  go true d = refl
-  go false d = absurd cc
+ticketed t new q cid status hints does = by_presence (list_any (is_ticket q cid) t.tickets) does where
+  by_presence : (b : Bool) → DoesBy (if b then Some (events.Collect q cid) else None) t (step.Collect q cid) (reply.Collected status hints) new → b ≡ true
+  by_presence true d = refl
+  by_presence false d = absurd cc
 
 module _ {A : Type 0} where
   -- a value that is a ticket is no finished command
@@ -32,10 +32,10 @@ module _ {A : Type 0} where
   one_kind (Some (value.Finished f)) x is = absurd cc
 
   no_ticket : (s : State) (values : Values A) (q cid : ℕ) → IsBench s values → list_any (is_ticket q cid) (table_with s values).tickets ≡ true → finished_at q cid (table_with s values).finished ≡ None
-  no_ticket s values q cid b is = finished_there s values q cid b ∙ go (value_at values.rows q cid) refl where
-    go : (o : Option (Option (CommandValue A))) → value_at values.rows q cid ≡ o → option_and_then as_finished o ≡ None
-    go None at = refl
-    go (Some v) at = by_ticket (as_ticket v) refl where
+  no_ticket s values q cid b is = finished_there s values q cid b ∙ by_value (value_at values.rows q cid) refl where
+    by_value : (o : Option (Option (CommandValue A))) → value_at values.rows q cid ≡ o → option_and_then as_finished o ≡ None
+    by_value None at = refl
+    by_value (Some v) at = by_ticket (as_ticket v) refl where
       by_ticket : (x : Option (ℕ × ℕ)) → as_ticket v ≡ x → as_finished v ≡ None
       by_ticket (Some x) tells = one_kind v x tells
       by_ticket None tells =

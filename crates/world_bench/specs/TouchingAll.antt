@@ -5,7 +5,7 @@ use Rattle.step_core.specs.Touching.{StepTouches}
 use Rattle.step_core.specs.Values.{Reply, Step}
 use Rattle.world_bench.specs.BenchTables.{BenchContents}
 
--- Steps and answers of which each is what a step does from where the one before led, and touches as many pages as it tells.
+-- Steps and answers, each of which is what a step does from where the one before led, and touches as many pages as it reports.
 abbrev pub TouchAll : BenchContents → List Step → List Reply → BenchContents → Type 0
 TouchAll b [] [] new = new ≡ b
 TouchAll b (what ∷ steps) (answer ∷ answers) new =

@@ -71,7 +71,7 @@ impl<A: Allocator + Copy> BenchTables<A> {
 }
 
 impl<A: Allocator + Copy> Bench<A> {
-    /// Opens a world over an image, with no value about.
+    /// Opens a world over an image, with no kept values.
     ///
     /// # Errors
     ///
@@ -108,7 +108,7 @@ impl<A: Allocator + Copy> Bench<A> {
     }
 
     /// Does the steps, one after the other, and answers what each answered. A step that is refused changes nothing, and the next
-    /// one is done all the same; want of memory inside a step is that step's answer.
+    /// one is done all the same; lack of memory inside a step is that step's answer.
     ///
     /// # Errors
     ///
@@ -123,7 +123,7 @@ impl<A: Allocator + Copy> Bench<A> {
         Ok(replies)
     }
 
-    /// Does one step, and answers what it answered. A step that is refused changes nothing; want of memory inside the step is its answer.
+    /// Does one step, and answers what it answered. A step that is refused changes nothing; lack of memory inside the step is its answer.
     pub fn step(&mut self, step: StepIn<A>) -> ReplyIn<A>
         ensures does { Does self.old.table step result self.new.table }
         ensures touches { StepTouches self.old.table.world.entries self.old.touches step result self.new.table self.new.touches }
@@ -139,7 +139,7 @@ impl<A: Allocator + Copy> Bench<A> {
         self.kept.world.image()
     }
 
-    /// Fills the buffer with the bytes of the pool from an address on, as [`World::read`] does.
+    /// Fills the buffer with the bytes of the pool starting at an address, as [`World::read`] does.
     ///
     /// # Errors
     ///
@@ -163,7 +163,7 @@ impl<A: Allocator + Copy> Bench<A> {
         finished_in(&self.kept.values, q, cid)
     }
 
-    /// Where both sides stand in the rings of a queue, as [`World::rings`] tells it.
+    /// Where both sides stand in the rings of a queue, as [`World::rings`] reports it.
     pub fn rings(&self, q: u16) -> Option<Rings>
         ensures state { option_map (λ rings. rings.state) result ≡ option_map (λ queue. queue.state) (slice_get self.now.table.world.host.queues q) }
         ensures host { option_map (λ rings. rings.host) result ≡ option_map (λ queue. host_positions queue.ring) (slice_get self.now.table.world.host.queues q) }
@@ -176,7 +176,7 @@ impl<A: Allocator + Copy> Bench<A> {
         self.kept.world.rings(q)
     }
 
-    /// The owner of a page of the pool: that of the one claim in which it stands.
+    /// The owner of a page of the pool: that of the one claim that contains it.
     pub fn owner(&self, p: PageNo) -> Owner
         requires { p < length self.now.table.world.memory }
         ensures { Contains (claims_of self.now.table.world.host) (p, result) }
@@ -215,7 +215,7 @@ impl<A: Allocator + Copy> Bench<A> {
         self.kept.world.touches()
     }
 
-    /// A step that the controller can do, as [`World::next_step`] tells it. It makes no step.
+    /// A step that the controller can do, as [`World::next_step`] reports it. It makes no step.
     pub fn next_step(&mut self) -> Option<ControllerStep>
         ensures possible { IfSome result (λ step. IsTrue self.old.table.world.trusted → refusal_of self.old.table.world (event_of step) ≡ None) }
         ensures rest { IfNone result (IsTrue self.old.table.world.trusted → IsAtRest self.old.table.world) }
@@ -232,7 +232,7 @@ impl<A: Allocator + Copy> Bench<A> {
         self.kept.world.check();
     }
 
-    /// Ends the bench: its world, and each value that it keeps. It takes no memory.
+    /// Ends the bench: its world, and each value that it keeps. It allocates no memory.
     pub fn end(self) -> Ended {
         let Bench { kept } = self;
         let BenchTables {

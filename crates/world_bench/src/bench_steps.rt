@@ -130,7 +130,7 @@ impl<A: Allocator + Copy> BenchTables<A> {
         }
     }
 
-    /// Rings a queue.
+    /// Rings a queue's doorbell.
     fn ring(&mut self, q: u16) -> ReplyIn<A>
         requires { IsBench self.old.world.state self.old.values }
         ensures does { Does (table_of self.old) (Step.Ring q) result (table_of self.new) }

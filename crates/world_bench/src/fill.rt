@@ -18,7 +18,7 @@ pub(crate) fn no_memory<A: Allocator>() -> ReplyIn<A>
     }
 }
 
-/// Fills a draft with the bytes, and with zeros behind them.
+/// Fills a draft with the bytes, and with zeros after them.
 pub(crate) fn fill_draft<A: Allocator>(draft: &mut Draft<A>, bytes: Bytes<A>) -> ReplyIn<A>
     ensures { FillsDraft draft.old bytes result draft.new }
 {

@@ -1,7 +1,7 @@
 //! The machine that runs, with the values of its commands: lists of steps, each named by numbers.
 //!
-//! A [`Bench`] is a [`World`] with the drafts, tickets and finished commands that it keeps, each named by its queue and identifier; it runs lists
-//! of [`Step`]s. What each of them may answer, and what it leaves, `step_core` says; and what a bench does is a run of the machine ([`step_core::laws`]).
+//! A [`Bench`] is a [`World`] with the drafts, tickets and finished commands that it keeps, each named by its queue and identifier; it runs lists of
+//! [`Step`]s. `step_core` says what each of them may answer, and what it leaves; and what a bench does is a run of the machine ([`step_core::laws`]).
 #![tactic(auto)]
 
 mod bench;

@@ -14,21 +14,21 @@ pub enum ListSupport {
     Words,
 }
 
-/// The serial number (SN), in ASCII and filled with blanks.
+/// The serial number (SN), in ASCII and padded with blanks.
 pub fn serial_number(bytes: &[u8; 4096]) -> &[u8]
     ensures { result.now ≡ slice_range bytes.now 4 24 }
 {
     &bytes[4..24]
 }
 
-/// The model number (MN), in ASCII and filled with blanks.
+/// The model number (MN), in ASCII and padded with blanks.
 pub fn model_number(bytes: &[u8; 4096]) -> &[u8]
     ensures { result.now ≡ slice_range bytes.now 24 64 }
 {
     &bytes[24..64]
 }
 
-/// The firmware revision (FR), in ASCII and filled with blanks.
+/// The firmware revision (FR), in ASCII and padded with blanks.
 pub fn firmware_revision(bytes: &[u8; 4096]) -> &[u8]
     ensures { result.now ≡ slice_range bytes.now 64 72 }
 {

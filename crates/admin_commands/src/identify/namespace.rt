@@ -6,14 +6,14 @@ ghost use Rattle.admin_commands.specs.Identify.{block_bytes as spec_block_bytes,
 /// A format of a namespace's blocks (LBAF).
 #[derive(Clone, Copy, Debug, PartialEq, Eq)]
 pub struct Format {
-    /// How many bytes of metadata stand beside a block (MS).
+    /// How many bytes of metadata go with a block (MS).
     pub metadata: u16,
-    /// The power of two that a block has of bytes (LBADS); 0 where there is no such format.
+    /// The number of bytes of a block as a power of two (LBADS); 0 where there is no such format.
     pub power: u8,
 }
 
 impl Format {
-    /// How many bytes a block has; none where that is no number of 32 bits, or there is no such format.
+    /// How many bytes a block has; none where that is not a number of 32 bits, or there is no such format.
     pub fn block_bytes(self) -> Option<u32>
         ensures { result ≡ spec_block_bytes self.power }
     {

@@ -1,7 +1,7 @@
 //! The two doorbells of a queue.
 
 ghost use Rattle.std.specs.Prelude.{◌≡◌};
-ghost use Rattle.nvmesgl_c.specs.ControllerKept.{kept_in};
+ghost use Rattle.nvmesgl_c.specs.ControllerKept.{kept_in, lends_in};
 ghost use Rattle.nvmesgl_c.specs.ControllerCalls.{tail_code, head_code, RingsTail, RingsHead};
 
 use crate::controller::code::{BAD_DOORBELL, NO_QUEUE};
@@ -42,27 +42,29 @@ fn code_of_head(queues: &[ControllerQueue], q: u16, value: u16) -> u32
 /// A value is written to the tail doorbell of a submission queue.
 #[unsafe(no_mangle)]
 pub extern "C" fn nvmectl_tail(alloc: Global, handle: &mut Handle, q: u16, value: u16) -> u32
-    ensures { RingsTail (kept_in handle.old) q value result (kept_in handle.new) }
+    ensures rings { RingsTail (kept_in handle.old) q value result (kept_in handle.new) }
+    ensures kind { lends_in handle.new ≡ lends_in handle.old }
 {
-    let mut controller = or_code!(handle.take(alloc));
-    let code = code_of_tail(controller.queues(), q, value);
+    let mut device = or_code!(handle.take(alloc));
+    let code = code_of_tail(device.queues(), q, value);
     if code == DONE {
-        controller.tail_doorbell(q, value);
+        device.tail_doorbell(q, value);
     }
-    handle.put(controller);
+    handle.put(device);
     code
 }
 
 /// A value is written to the head doorbell of a completion queue.
 #[unsafe(no_mangle)]
 pub extern "C" fn nvmectl_head(alloc: Global, handle: &mut Handle, q: u16, value: u16) -> u32
-    ensures { RingsHead (kept_in handle.old) q value result (kept_in handle.new) }
+    ensures rings { RingsHead (kept_in handle.old) q value result (kept_in handle.new) }
+    ensures kind { lends_in handle.new ≡ lends_in handle.old }
 {
-    let mut controller = or_code!(handle.take(alloc));
-    let code = code_of_head(controller.queues(), q, value);
+    let mut device = or_code!(handle.take(alloc));
+    let code = code_of_head(device.queues(), q, value);
     if code == DONE {
-        controller.head_doorbell(q, value);
+        device.head_doorbell(q, value);
     }
-    handle.put(controller);
+    handle.put(device);
     code
 }

@@ -1,13 +1,13 @@
 //! A controller that C keeps between its calls.
 
-ghost use Rattle.std.specs.Prelude.{◌≡◌, Option, Ok, Err, IfOk, IfErr, OnOk};
-ghost use Rattle.controller_core.specs.Contents.{Contents};
-ghost use Rattle.nvmesgl_c.specs.Keeping.{IsMarked};
-ghost use Rattle.nvmesgl_c.specs.ControllerOwned.{controller_coded, kept_owns, own_mark};
+ghost use Rattle.std.specs.Prelude.{◌≡◌, Option, Ok, Err, IfOk, IfErr, OnOk, is_some, true, false};
+ghost use Rattle.nvmesgl_c.specs.ControllerDevices.{DeviceContents};
+ghost use Rattle.nvmesgl_c.specs.ControllerOwned.{code_by_mark, device_coded, kept_owns, IsMarkedDevice};
 
+use crate::controller::code::OTHER_CALL;
+use crate::controller::device::Device;
 use crate::held::Held;
-use crate::words::code::{cause_of_mark, code_of_mark};
-use controller_core::Controller;
+use crate::words::code::{OPEN, cause_of_mark, code_of_mark};
 use std::alloc::Global;
 use std::marker::Model;
 use std::mem::replace;
@@ -18,11 +18,11 @@ use std::mem::replace;
 pub struct Kept {
     at: *mut u8,
     alloc: Global,
-    pub ghost controller: { Option Contents } by { controller_coded },
+    pub ghost device: { Option DeviceContents } by { device_coded },
 }
 
 impl Model for Kept {
-    ghost also_owns = { λ h. kept_owns h.alloc h.at h.controller };
+    ghost also_owns = { λ h. kept_owns h.alloc h.at h.device };
 }
 
 // What frees the controller names no thread: a handle may go from thread to thread, where one call at a time is made on it.
@@ -30,8 +30,8 @@ unsafe impl Send for Kept {}
 
 impl Kept {
     /// What is held.
-    pub fn of_held(held: Held<Controller, Global>) -> Kept
-        ensures { result.controller ≡ held.value }
+    pub fn of_held(held: Held<Device, Global>) -> Kept
+        ensures { result.device ≡ held.value }
     {
         let Held { at, alloc } = held;
         Kept {
@@ -41,79 +41,145 @@ impl Kept {
     }
 
     /// What is held.
-    pub fn into_held(self) -> Held<Controller, Global>
-        ensures { result.value ≡ self.controller }
+    pub fn into_held(self) -> Held<Device, Global>
+        ensures { result.value ≡ self.device }
     {
         let Kept { at, alloc } = self;
         Held {
-            at: at as *mut Controller,
+            at: at as *mut Device,
             alloc,
         }
     }
 }
 
-/// The mark of a handle that keeps a controller.
+/// The mark of a handle that keeps a controller with an image.
 const OWN_MARK: u32 = 0x6C74_6363;
+
+/// The mark of a handle that keeps a controller whose blocks are lent.
+const LENT_MARK: u32 = 0x6C74_636C;
 
 /// A controller that C keeps, or none. C holds the bytes of this, all zero before the opening, and never looks inside.
 #[repr(C)]
 pub struct Handle {
     /// What is kept.
     kept: Kept,
-    /// [`OWN_MARK`] where there is one, and 0 in a handle that is closed. A handle with another mark is none of this kind.
+    /// [`OWN_MARK`] or [`LENT_MARK`] where there is one, and 0 in a handle that is closed. A handle with another mark is not of this kind.
     mark: u32,
-    pub ghost marked: { IsMarked own_mark mark kept.controller },
+    pub ghost marked: { IsMarkedDevice mark kept.device },
+}
+
+/// What a call is refused with that takes no handle of this mark.
+fn code_of(mark: u32) -> u32
+    ensures { result ≡ code_by_mark mark }
+{
+    match mark {
+        OWN_MARK | LENT_MARK => OTHER_CALL,
+        _ => code_of_mark(mark),
+    }
 }
 
 impl Handle {
-    ghost use Rattle.nvmesgl_c.specs.ControllerKept.{IsClosed, cause_in, code_in, kept_in};
+    ghost use Rattle.nvmesgl_c.specs.ControllerKept.{IsClosed, cause_in, code_in, kept_in, lends_in, lent_in, own_in};
 
-    /// Takes the controller out for a call. A handle that keeps none stays as it is.
+    /// Takes the controller out that is kept.
+    fn take_out(&mut self, alloc: Global) -> Box<Device, Global>
+        requires { is_some self.old.kept.device ≡ true }
+        ensures taken { self.old.kept.device ≡ Some result.value }
+        ensures left { kept_in self.new ≡ Err self.new }
+        ensures closed { IsClosed self.new }
+    {
+        let kept = replace(&mut self.kept, Kept::of_held(Held::none(alloc)));
+        self.mark = 0;
+        kept.into_held().into_box()
+    }
+
+    /// Takes the controller out for a call, of whichever kind it is. A handle that keeps none stays as it is.
     ///
     /// # Errors
     ///
-    /// The code, where none is kept: the handle is closed, or none of this kind.
-    pub fn take(&mut self, alloc: Global) -> Result<Box<Controller, Global>, u32>
-        ensures taken { IfOk result (λ taken. kept_in self.old ≡ Ok taken.value) }
+    /// The code, where none is kept: the handle is closed, or not of this kind.
+    pub fn take(&mut self, alloc: Global) -> Result<Box<Device, Global>, u32>
+        ensures taken { IfOk result (λ taken. kept_in self.old ≡ Ok taken.value.contents) }
+        ensures kind { IfOk result (λ taken. lends_in self.old ≡ taken.value.lends) }
         ensures left { OnOk result (kept_in self.new ≡ Err self.new) }
         ensures closed { OnOk result (IsClosed self.new) }
         ensures none { IfErr result (λ code. kept_in self.old ≡ Err self.old) }
-        ensures same { IfErr result (λ code. kept_in self.new ≡ Err self.old) }
+        ensures same { IfErr result (λ code. self.new ≡ self.old) }
+        ensures code { IfErr result (λ code. code ≡ code_in self.old) }
+    {
+        match self.mark {
+            OWN_MARK | LENT_MARK => Ok(self.take_out(alloc)),
+            mark => Err(code_of(mark)),
+        }
+    }
+
+    /// Takes a controller out that holds an image. A handle that keeps none stays as it is.
+    ///
+    /// # Errors
+    ///
+    /// The code, where none is kept: as [`Handle::take`], or the blocks of the one that is kept are lent.
+    pub fn take_own(&mut self, alloc: Global) -> Result<Box<Device, Global>, u32>
+        ensures taken { IfOk result (λ taken. own_in self.old ≡ Ok taken.value.contents) }
+        ensures kind { IfOk result (λ taken. taken.value.lends ≡ false) }
+        ensures none { IfErr result (λ code. own_in self.old ≡ Err self.old) }
+        ensures same { IfErr result (λ code. self.new ≡ self.old) }
         ensures code { IfErr result (λ code. code ≡ code_in self.old) }
     {
         if self.mark == OWN_MARK {
-            let kept = replace(&mut self.kept, Kept::of_held(Held::none(alloc)));
-            self.mark = 0;
-            return Ok(kept.into_held().into_box());
+            return Ok(self.take_out(alloc));
         }
-        Err(code_of_mark(self.mark))
+        Err(code_of(self.mark))
+    }
+
+    /// Takes a controller out whose blocks are lent. A handle that keeps none stays as it is.
+    ///
+    /// # Errors
+    ///
+    /// The code, where none is kept: as [`Handle::take`], or the one that is kept holds an image.
+    pub fn take_lent(&mut self, alloc: Global) -> Result<Box<Device, Global>, u32>
+        ensures taken { IfOk result (λ taken. lent_in self.old ≡ Ok taken.value.contents) }
+        ensures kind { IfOk result (λ taken. taken.value.lends ≡ true) }
+        ensures none { IfErr result (λ code. lent_in self.old ≡ Err self.old) }
+        ensures same { IfErr result (λ code. self.new ≡ self.old) }
+        ensures code { IfErr result (λ code. code ≡ code_in self.old) }
+    {
+        if self.mark == LENT_MARK {
+            return Ok(self.take_out(alloc));
+        }
+        Err(code_of(self.mark))
     }
 
     /// Keeps a controller, in the place of what was there.
-    pub fn put(&mut self, controller: Box<Controller, Global>)
-        ensures { kept_in self.new ≡ Ok controller.value }
+    pub fn put(&mut self, device: Box<Device, Global>)
+        ensures kept { kept_in self.new ≡ Ok device.value.contents }
+        ensures kind { lends_in self.new ≡ device.value.lends }
+        ensures own { device.value.lends ≡ false → own_in self.new ≡ Ok device.value.contents }
+        ensures lent { device.value.lends ≡ true → lent_in self.new ≡ Ok device.value.contents }
     {
+        let mark = if device.lends() { LENT_MARK } else { OWN_MARK };
         *self = Handle {
-            kept: Kept::of_held(Held::of(controller)),
-            mark: OWN_MARK,
+            kept: Kept::of_held(Held::of(device)),
+            mark,
         };
     }
 
-    /// What an opening is refused with for what the handle is: it is open, or none of this kind.
+    /// What an opening is refused with for what the handle is: it is open, or not of this kind.
     pub fn cause(&self) -> Option<u32>
         ensures { result ≡ cause_in (kept_in self.now) }
     {
-        cause_of_mark(self.mark, OWN_MARK)
+        match self.mark {
+            LENT_MARK => Some(OPEN),
+            mark => cause_of_mark(mark, OWN_MARK),
+        }
     }
 }
 
 impl Drop for Handle {
     fn drop(self) {
         let Handle { kept, mark } = self;
-        if mark == OWN_MARK {
-            drop(kept.into_held().into_box());
-        } else {
-            drop(kept);
+        match mark {
+            OWN_MARK | LENT_MARK => drop(kept.into_held().into_box()),
+            _ => drop(kept),
         }
     }
 }

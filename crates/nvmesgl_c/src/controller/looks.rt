@@ -1,7 +1,7 @@
 //! What a handle shows of its controller.
 
 ghost use Rattle.std.specs.Prelude.{◌≡◌};
-ghost use Rattle.nvmesgl_c.specs.ControllerKept.{kept_in};
+ghost use Rattle.nvmesgl_c.specs.ControllerKept.{kept_in, lends_in, own_in};
 ghost use Rattle.nvmesgl_c.specs.ControllerLooks as looks;
 ghost use Rattle.nvmesgl_c.specs.ControllerLooks.{TellsCommand, TellsBlocks};
 
@@ -71,21 +71,22 @@ pub extern "C" fn nvmectl_command(
     cid: u16,
     command: &mut CCommand,
 ) -> u32
-    ensures { TellsCommand (kept_in handle.old) q cid result command.old command.new (kept_in handle.new) }
+    ensures tells { TellsCommand (kept_in handle.old) q cid result command.old command.new (kept_in handle.new) }
+    ensures kind { lends_in handle.new ≡ lends_in handle.old }
 {
-    let controller = or_code!(handle.take(alloc));
-    let code = match controller.command(q, cid) {
+    let device = or_code!(handle.take(alloc));
+    let code = match device.command(q, cid) {
         Some(found) => {
             *command = command_of(found);
             DONE
         }
         None => NO_JOB,
     };
-    handle.put(controller);
+    handle.put(device);
     code
 }
 
-/// Copies blocks of the image into a buffer, from `slba` on.
+/// Copies blocks of the image into a buffer, starting at `slba`.
 #[unsafe(no_mangle)]
 pub extern "C" fn nvmectl_blocks(
     alloc: Global,
@@ -93,10 +94,10 @@ pub extern "C" fn nvmectl_blocks(
     slba: u64,
     buffer: &mut [u8],
 ) -> u32
-    ensures { TellsBlocks (kept_in handle.old) slba result buffer.old buffer.new (kept_in handle.new) }
+    ensures { TellsBlocks (own_in handle.old) slba result buffer.old buffer.new (own_in handle.new) }
 {
-    let controller = or_code!(handle.take(alloc));
-    let code = copy_blocks(controller.image(), slba, buffer);
-    handle.put(controller);
+    let device = or_code!(handle.take_own(alloc));
+    let code = copy_blocks(device.image(), slba, buffer);
+    handle.put(device);
     code
 }

@@ -1,16 +1,17 @@
 //! What the controller can do next.
 
 ghost use Rattle.std.specs.Prelude.{◌≡◌, slice_get};
-ghost use Rattle.nvmesgl_c.specs.ControllerKept.{kept_in};
+ghost use Rattle.nvmesgl_c.specs.ControllerKept.{kept_in, lends_in};
 ghost use Rattle.nvmesgl_c.specs.ControllerNext as next;
 ghost use Rattle.nvmesgl_c.specs.ControllerNext.{Sees, TellsNext};
 
 use crate::controller::calls::take_for;
+use crate::controller::device::Device;
 use crate::controller::handle::Handle;
 use crate::words::code::DONE;
 use crate::words::{LentMemory, Recorded, or_code};
 use arrayvec::ArrayVec;
-use controller_core::{Controller, ControllerStep};
+use controller_core::ControllerStep;
 use std::alloc::Global;
 
 /// What a controller can do.
@@ -47,22 +48,22 @@ pub(crate) fn step_of(step: Option<ControllerStep>) -> CStep
 
 /// Looks for a step over a memory that is lent and recorded: both borrows are the same ones afterwards.
 fn look_over(
-    controller: &Controller,
+    controller: &Device,
     memory: &mut Recorded<'_, LentMemory<'_>>,
 ) -> Option<ControllerStep>
     ensures lent { memory.new.lent.ghost_name ≡ memory.old.lent.ghost_name }
     ensures same { memory.new.lent.now.bytes.ghost_name ≡ memory.old.lent.now.bytes.ghost_name }
     ensures kept { slice_get memory.new.lent.now.bytes.now ≡ slice_get memory.old.lent.now.bytes.now }
-    ensures sees { Sees controller.now (slice_get memory.old.lent.now.bytes.now) result }
+    ensures sees { Sees controller.now.contents (slice_get memory.old.lent.now.bytes.now) result }
 {
     controller.next_step(memory)
 }
 
 /// Looks for a step over a memory that is lent: the borrow is the same one afterwards.
-fn look(controller: &Controller, memory: &mut LentMemory<'_>) -> Option<ControllerStep>
+fn look(controller: &Device, memory: &mut LentMemory<'_>) -> Option<ControllerStep>
     ensures same { memory.new.bytes.ghost_name ≡ memory.old.bytes.ghost_name }
     ensures kept { slice_get memory.new.bytes.now ≡ slice_get memory.old.bytes.now }
-    ensures sees { Sees controller.now (slice_get memory.old.bytes.now) result }
+    ensures sees { Sees controller.now.contents (slice_get memory.old.bytes.now) result }
 {
     let mut recorded = Recorded {
         lent: memory,
@@ -79,14 +80,15 @@ pub extern "C" fn nvmectl_next(
     pool: &mut [u8],
     step: &mut CStep,
 ) -> u32
-    ensures { TellsNext (kept_in handle.old) pool.old result step.old step.new (kept_in handle.new) pool.new }
+    ensures tells { TellsNext (kept_in handle.old) pool.old result step.old step.new (kept_in handle.new) pool.new }
+    ensures kind { lends_in handle.new ≡ lends_in handle.old }
 {
-    let controller = or_code!(take_for(alloc, handle, pool.len()));
+    let device = or_code!(take_for(alloc, handle, pool.len()));
     let mut memory = LentMemory {
         bytes: pool,
         touched: ArrayVec::new(),
     };
-    *step = step_of(look(&controller, &mut memory));
-    handle.put(controller);
+    *step = step_of(look(&device, &mut memory));
+    handle.put(device);
     DONE
 }

@@ -1,10 +1,11 @@
 //! The opening and the closing of a handle, and the reset.
 
-ghost use Rattle.std.specs.Prelude.{◌≡◌, ◌≤◌, IfOk, IfErr, length};
-ghost use Rattle.nvmesgl_c.specs.ControllerKept.{Closes, kept_in};
+ghost use Rattle.std.specs.Prelude.{◌≡◌, ◌≤◌, false, IfOk, IfErr, length};
+ghost use Rattle.nvmesgl_c.specs.ControllerKept.{Closes, kept_in, lends_in};
 ghost use Rattle.nvmesgl_c.specs.ControllerCalls.{Resets};
 ghost use Rattle.nvmesgl_c.specs.ControllerOptions.{Opens, IsOpened, IsWhy};
 
+use crate::controller::device::Device;
 use crate::controller::handle::Handle;
 use crate::controller::options::{CQueue, Options, entries_of, pages_of};
 use crate::words::code::DONE;
@@ -13,14 +14,15 @@ use block_image::ImageError;
 use controller_core::Controller;
 use std::alloc::Global;
 
-/// A controller in a box.
+/// A controller with an image, in a box.
 fn open_controller(
     alloc: Global,
     given: &Options,
     queues: &[CQueue],
     bytes: &[u8],
-) -> Result<Box<Controller, Global>, NotOpened>
-    ensures opened { IfOk result (λ controller. IsOpened given.now queues.now bytes.now controller.value) }
+) -> Result<Box<Device, Global>, NotOpened>
+    ensures opened { IfOk result (λ device. IsOpened given.now queues.now bytes.now device.value.contents) }
+    ensures kind { IfOk result (λ device. device.value.lends ≡ false) }
     ensures not_opened { IfErr result (λ why. IsWhy given.now (length queues.now) bytes.now why) }
 {
     let entries = entries_of(given, queues)?;
@@ -33,8 +35,8 @@ fn open_controller(
         return Err(NotOpened::Memory);
     };
     match Controller::open(alloc, entries, &pages, image) {
-        Ok(controller) => match Box::new(alloc, controller) {
-            Ok(controller) => Ok(controller),
+        Ok(controller) => match Box::new(alloc, Device::holding(controller)) {
+            Ok(device) => Ok(device),
             Err(_) => Err(NotOpened::Memory),
         },
         Err(_) => Err(NotOpened::Memory),
@@ -50,14 +52,15 @@ pub extern "C" fn nvmectl_open(
     queues: &[CQueue],
     image: &[u8],
 ) -> u32
-    ensures { Opens (kept_in handle.old) given.now queues.now image.now result (kept_in handle.new) }
+    ensures opens { Opens (kept_in handle.old) given.now queues.now image.now result (kept_in handle.new) }
+    ensures kind { lends_in handle.new ≡ lends_in handle.old }
 {
     if let Some(code) = handle.cause() {
         return code;
     }
     match open_controller(alloc, given, queues, image) {
-        Ok(controller) => {
-            handle.put(controller);
+        Ok(device) => {
+            handle.put(device);
             DONE
         }
         Err(why) => code_of_not_opened(why),
@@ -69,18 +72,19 @@ pub extern "C" fn nvmectl_open(
 pub extern "C" fn nvmectl_close(alloc: Global, handle: &mut Handle)
     ensures { Closes (kept_in handle.old) (kept_in handle.new) }
 {
-    if let Ok(controller) = handle.take(alloc) {
-        drop(controller);
+    if let Ok(device) = handle.take(alloc) {
+        drop(device);
     }
 }
 
 /// Resets the controller: no command is left, and only queue 0 is there.
 #[unsafe(no_mangle)]
 pub extern "C" fn nvmectl_reset(alloc: Global, handle: &mut Handle) -> u32
-    ensures { Resets (kept_in handle.old) result (kept_in handle.new) }
+    ensures resets { Resets (kept_in handle.old) result (kept_in handle.new) }
+    ensures kind { lends_in handle.new ≡ lends_in handle.old }
 {
-    let mut controller = or_code!(handle.take(alloc));
-    controller.reset();
-    handle.put(controller);
+    let mut device = or_code!(handle.take(alloc));
+    device.reset();
+    handle.put(device);
     DONE
 }

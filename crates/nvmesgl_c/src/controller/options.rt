@@ -13,7 +13,7 @@ use std::alloc::{AllocError, Global};
 /// How many bytes [`Options`] has.
 const SIZE: u32 = 32;
 
-/// What a controller is opened with, beside the pages of its queues and an image. A later version may give a meaning to a word that is reserved now.
+/// What a controller is opened with, besides the pages of its queues and an image. A later version may give a meaning to a word that is reserved now.
 #[repr(C)]
 #[derive(Clone, Copy)]
 pub struct Options {
@@ -21,7 +21,7 @@ pub struct Options {
     pub size: u32,
     /// The entries of each ring, 2 to 1,024.
     pub entries: u32,
-    /// The blocks of an image of zeros, 1 to 65,536; looked at only where no image is given.
+    /// The blocks of an image of zeros, 1 to 65,536; read only where no image is given.
     pub blocks: u32,
     /// Zeros.
     pub reserved: [u32; 5],

@@ -1,23 +1,25 @@
 //! The controller's calls over the bytes of a pool that is lent.
 
-ghost use Rattle.std.specs.Prelude.{◌≡◌, ◌/◌, [], length, slice_get};
+ghost use Rattle.std.specs.Prelude.{◌≡◌, false, ◌/◌, [], length, slice_get};
 ghost use Rattle.nvmesgl_c.specs.ControllerCalls.{FetchesBy, WalksBy, CompletesBy};
 
 use crate::controller::code::code_of_refusal;
+use crate::controller::device::Device;
 use crate::words::code::DONE;
 use crate::words::{Answer, LentMemory, touching, walked};
-use controller_core::Controller;
 
 /// Fetches over a memory that is lent, and tells what was fetched. The borrow is the same one afterwards.
 pub(crate) fn fetch(
-    controller: &mut Controller,
+    controller: &mut Device,
     q: u16,
     memory: &mut LentMemory,
     answer: &mut Answer,
 ) -> u32
     requires fresh { memory.old.touched.items ≡ [] }
+    requires own { controller.old.lends ≡ false }
+    ensures kind { controller.new.lends ≡ false }
     ensures same { memory.new.bytes.ghost_name ≡ memory.old.bytes.ghost_name }
-    ensures fetches { FetchesBy q controller.old (length memory.old.bytes.now / 4096) (slice_get memory.old.bytes.now) result answer.new controller.new (slice_get memory.new.bytes.now) }
+    ensures fetches { FetchesBy q controller.old.contents (length memory.old.bytes.now / 4096) (slice_get memory.old.bytes.now) result answer.new controller.new.contents (slice_get memory.new.bytes.now) }
 {
     let fetched = controller.fetch(q, memory);
     *answer = touching(memory.touched.as_slice());
@@ -32,15 +34,16 @@ pub(crate) fn fetch(
 
 /// Does a unit of a command's list over a memory that is lent, and tells how the list stands. The borrow is the same one afterwards.
 pub(crate) fn walk(
-    controller: &mut Controller,
+    controller: &mut Device,
     q: u16,
     cid: u16,
     memory: &mut LentMemory,
     answer: &mut Answer,
 ) -> u32
     requires fresh { memory.old.touched.items ≡ [] }
+    ensures kind { controller.new.lends ≡ controller.old.lends }
     ensures same { memory.new.bytes.ghost_name ≡ memory.old.bytes.ghost_name }
-    ensures walks { WalksBy q cid controller.old (length memory.old.bytes.now / 4096) (slice_get memory.old.bytes.now) result answer.new controller.new (slice_get memory.new.bytes.now) }
+    ensures walks { WalksBy q cid controller.old.contents (length memory.old.bytes.now / 4096) (slice_get memory.old.bytes.now) result answer.new controller.new.contents (slice_get memory.new.bytes.now) }
 {
     match controller.walk(q, cid, memory) {
         Ok(state) => {
@@ -56,15 +59,17 @@ pub(crate) fn walk(
 
 /// Completes a command over a memory that is lent. The borrow is the same one afterwards.
 pub(crate) fn complete(
-    controller: &mut Controller,
+    controller: &mut Device,
     q: u16,
     cid: u16,
     memory: &mut LentMemory,
     answer: &mut Answer,
 ) -> u32
     requires fresh { memory.old.touched.items ≡ [] }
+    requires own { controller.old.lends ≡ false }
+    ensures kind { controller.new.lends ≡ false }
     ensures same { memory.new.bytes.ghost_name ≡ memory.old.bytes.ghost_name }
-    ensures completes { CompletesBy q cid controller.old (length memory.old.bytes.now / 4096) (slice_get memory.old.bytes.now) result answer.new controller.new (slice_get memory.new.bytes.now) }
+    ensures completes { CompletesBy q cid controller.old.contents (length memory.old.bytes.now / 4096) (slice_get memory.old.bytes.now) result answer.new controller.new.contents (slice_get memory.new.bytes.now) }
 {
     let completed = controller.complete(q, cid, memory);
     *answer = touching(memory.touched.as_slice());

@@ -1,7 +1,7 @@
 //! The calls that are lent regions of memory.
 
 ghost use Rattle.std.specs.Prelude.{◌≡◌};
-ghost use Rattle.nvmesgl_c.specs.ControllerKept.{kept_in};
+ghost use Rattle.nvmesgl_c.specs.ControllerKept.{kept_in, lends_in, own_in};
 ghost use Rattle.nvmesgl_c.specs.ControllerCalls.{FetchesBy, WalksBy, CompletesBy};
 ghost use Rattle.nvmesgl_c.specs.ControllerOver.{LentOver, TellsNextOver};
 ghost use Rattle.nvmesgl_c.specs.Regions.{hidden_in, table_of};
@@ -23,20 +23,20 @@ pub extern "C" fn nvmectl_fetch_over(
     regions: &mut [CRegion<'_>],
     answer: &mut Answer,
 ) -> u32
-    ensures calls { LentOver (FetchesBy q) (kept_in handle.old) regions.old result answer.new (kept_in handle.new) regions.new }
+    ensures calls { LentOver (FetchesBy q) (own_in handle.old) regions.old result answer.new (own_in handle.new) regions.new }
     ensures table { table_of regions.new ≡ table_of regions.old }
     ensures hidden { hidden_in regions.new ≡ hidden_in regions.old }
 {
     *answer = nothing();
-    let mut controller = or_code!(handle.take(alloc));
+    let mut device = or_code!(handle.take_own(alloc));
     let pages = pages_in(regions);
     let mut memory = LentRegions {
         regions,
         pages,
         touched: ArrayVec::new(),
     };
-    let code = fetch(&mut controller, q, &mut memory, answer);
-    handle.put(controller);
+    let code = fetch(&mut device, q, &mut memory, answer);
+    handle.put(device);
     code
 }
 
@@ -51,19 +51,20 @@ pub extern "C" fn nvmectl_walk_over(
     answer: &mut Answer,
 ) -> u32
     ensures calls { LentOver (WalksBy q cid) (kept_in handle.old) regions.old result answer.new (kept_in handle.new) regions.new }
+    ensures kind { lends_in handle.new ≡ lends_in handle.old }
     ensures table { table_of regions.new ≡ table_of regions.old }
     ensures hidden { hidden_in regions.new ≡ hidden_in regions.old }
 {
     *answer = nothing();
-    let mut controller = or_code!(handle.take(alloc));
+    let mut device = or_code!(handle.take(alloc));
     let pages = pages_in(regions);
     let mut memory = LentRegions {
         regions,
         pages,
         touched: ArrayVec::new(),
     };
-    let code = walk(&mut controller, q, cid, &mut memory, answer);
-    handle.put(controller);
+    let code = walk(&mut device, q, cid, &mut memory, answer);
+    handle.put(device);
     code
 }
 
@@ -77,20 +78,20 @@ pub extern "C" fn nvmectl_complete_over(
     regions: &mut [CRegion<'_>],
     answer: &mut Answer,
 ) -> u32
-    ensures calls { LentOver (CompletesBy q cid) (kept_in handle.old) regions.old result answer.new (kept_in handle.new) regions.new }
+    ensures calls { LentOver (CompletesBy q cid) (own_in handle.old) regions.old result answer.new (own_in handle.new) regions.new }
     ensures table { table_of regions.new ≡ table_of regions.old }
     ensures hidden { hidden_in regions.new ≡ hidden_in regions.old }
 {
     *answer = nothing();
-    let mut controller = or_code!(handle.take(alloc));
+    let mut device = or_code!(handle.take_own(alloc));
     let pages = pages_in(regions);
     let mut memory = LentRegions {
         regions,
         pages,
         touched: ArrayVec::new(),
     };
-    let code = complete(&mut controller, q, cid, &mut memory, answer);
-    handle.put(controller);
+    let code = complete(&mut device, q, cid, &mut memory, answer);
+    handle.put(device);
     code
 }
 
@@ -103,17 +104,18 @@ pub extern "C" fn nvmectl_next_over(
     step: &mut CStep,
 ) -> u32
     ensures tells { TellsNextOver (kept_in handle.old) regions.old result step.old step.new (kept_in handle.new) regions.new }
+    ensures kind { lends_in handle.new ≡ lends_in handle.old }
     ensures table { table_of regions.new ≡ table_of regions.old }
     ensures hidden { hidden_in regions.new ≡ hidden_in regions.old }
 {
-    let controller = or_code!(handle.take(alloc));
+    let device = or_code!(handle.take(alloc));
     let pages = pages_in(regions);
     let mut memory = LentRegions {
         regions,
         pages,
         touched: ArrayVec::new(),
     };
-    *step = step_of(look(&controller, &mut memory));
-    handle.put(controller);
+    *step = step_of(look(&device, &mut memory));
+    handle.put(device);
     DONE
 }

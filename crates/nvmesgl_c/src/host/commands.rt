@@ -45,7 +45,7 @@ pub extern "C" fn nvmehost_fill(
     code_of_reply(&reply)
 }
 
-/// Gathers a Read's bytes to the front of a buffer, with no list between: how many they are. None, and nothing is written, where no such
+/// Gathers a Read's bytes to the start of a buffer, with no list between: how many they are. None, and nothing is written, where no such
 /// command is collected, the buffer is too short, or no host is kept.
 fn gather_from(
     alloc: Global,
@@ -67,7 +67,7 @@ fn gather_from(
     count
 }
 
-/// Gathers a Read's bytes as a list, and lays them at the front of a buffer where they fit.
+/// Gathers a Read's bytes as a list, and lays them at the start of a buffer where they fit.
 fn gather_listed(
     alloc: Global,
     handle: &mut Handle,
@@ -88,7 +88,7 @@ fn gather_listed(
     code_of_reply(&reply)
 }
 
-/// Gathers a Read's bytes into the front of a buffer. A list is made only where they were not laid: it says why, or how many they are.
+/// Gathers a Read's bytes into the start of a buffer. A list is made only where they were not laid: it says why, or how many they are.
 #[unsafe(no_mangle)]
 pub extern "C" fn nvmehost_gather(
     alloc: Global,

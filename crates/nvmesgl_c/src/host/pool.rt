@@ -11,14 +11,14 @@ use crate::words::or_code;
 use host_bench::HostBench;
 use std::alloc::Global;
 
-/// Whether so many bytes are moved by one call: 1 to 4,096.
+/// Whether this many bytes are moved by one call: 1 to 4,096.
 fn fits(count: usize) -> bool
     ensures { result ≡ spec_fits count }
 {
     0 < count && count <= 4096
 }
 
-/// Fills a buffer with the bytes of a host's pool from an address on.
+/// Fills a buffer with the bytes of a host's pool starting at an address.
 fn read_from(bench: &mut HostBench, addr: u64, buffer: &mut [u8]) -> u32
     ensures { ReadsFrom bench.old addr result buffer.old buffer.new bench.new }
 {
@@ -31,7 +31,7 @@ fn read_from(bench: &mut HostBench, addr: u64, buffer: &mut [u8]) -> u32
     }
 }
 
-/// Puts bytes into a host's pool from an address on.
+/// Puts bytes into a host's pool starting at an address.
 fn write_into(bench: &mut HostBench, addr: u64, bytes: &[u8]) -> u32
     ensures { WritesInto bench.old addr bytes.now result bench.new }
 {
@@ -44,7 +44,7 @@ fn write_into(bench: &mut HostBench, addr: u64, bytes: &[u8]) -> u32
     }
 }
 
-/// Copies bytes of the pool into a buffer, from an address on.
+/// Copies bytes of the pool into a buffer, starting at an address.
 #[unsafe(no_mangle)]
 pub extern "C" fn nvmehost_read(
     alloc: Global,
@@ -60,7 +60,7 @@ pub extern "C" fn nvmehost_read(
     code
 }
 
-/// Copies bytes into the pool, from an address on.
+/// Copies bytes into the pool, starting at an address.
 #[unsafe(no_mangle)]
 pub extern "C" fn nvmehost_write(alloc: Global, handle: &mut Handle, addr: u64, bytes: &[u8]) -> u32
     ensures { Writes (kept_in handle.old) addr bytes.now result (kept_in handle.new) }

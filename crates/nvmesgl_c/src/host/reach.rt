@@ -75,7 +75,7 @@ fn place_of(place: DataPlace) -> CPlace
     }
 }
 
-/// Lays runs into the front of a buffer, as many as it holds: how many were laid, and whether they are all.
+/// Lays runs into the start of a buffer, as many as it holds: how many were laid, and whether they are all.
 fn lay(runs: Runs<'_>, into: &mut [CRun]) -> (usize, bool)
     ensures { LaysRuns runs.entry into.old into.new result.0 result.1 }
 {
@@ -107,7 +107,7 @@ pub extern "C" fn nvmehost_may(
     DONE
 }
 
-/// Lays the pages of a command as runs, with what a device may do with them now, into the front of a buffer. How many were laid is told.
+/// Lays the pages of a command as runs, with what a device may do with them now, into the start of a buffer. How many were laid is told.
 #[unsafe(no_mangle)]
 pub extern "C" fn nvmehost_runs(
     alloc: Global,

@@ -25,7 +25,7 @@ pub(crate) fn named(reply: &Reply) -> Option<u16>
     }
 }
 
-/// Reserves a command, which gets its tag; where memory is refused for that, it is cancelled. What is told: the reservation, or what stood against it.
+/// Reserves a command, which gets its tag; where memory is refused for that, it is cancelled. What is told: the reservation, or what prevented it.
 pub(crate) fn reserve(kept: &mut Tagged, q: u16, request: Request, tag: u64) -> Reply
     ensures { ReservesOne kept.old q request tag result kept.new }
 {

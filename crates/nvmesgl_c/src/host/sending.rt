@@ -58,7 +58,8 @@ fn send_draft(bench: &mut HostBench, q: u16, cid: u16, bytes: Option<Bytes>) -> 
     }
 }
 
-/// Fills a draft that has its tag, builds it and submits it; one that cannot be submitted is cancelled. What was answered that stood against it, if anything did.
+/// Fills a draft that has its tag, builds it and submits it; one that cannot be submitted is cancelled. What was answered that prevented it, if
+/// anything did.
 fn send_reserved(bench: &mut HostBench, q: u16, cid: u16, bytes: Option<Bytes>) -> Option<Reply>
     ensures done { IfNone result (AllAccepted bench.old (send_calls q cid bytes) bench.new) }
     ensures given_up { IfSome result (λ why. sending.GivesUp bench.old q cid bytes why bench.new) }
@@ -68,7 +69,8 @@ fn send_reserved(bench: &mut HostBench, q: u16, cid: u16, bytes: Option<Bytes>) 
     Some(why)
 }
 
-/// Reserves a command, which gets its tag, and submits it; one that cannot be submitted is cancelled. What is told: the reservation, or what was answered that stood against it.
+/// Reserves a command, which gets its tag, and submits it; one that cannot be submitted is cancelled. What is told: the reservation, or what was
+/// answered that prevented it.
 fn send(kept: &mut Tagged, q: u16, request: Request, bytes: Option<Bytes>, tag: u64) -> Reply
     ensures { SendsOne kept.old q request bytes tag result kept.new }
 {

@@ -20,13 +20,13 @@ const MOST_REAPS: u32 = 1_024;
 /// What a Read brought.
 #[derive(Drop)]
 pub enum Brought {
-    /// So many bytes, at the front of the buffer.
+    /// This many bytes, at the start of the buffer.
     Laid(usize),
     /// These, as a list: the buffer is as it was.
     Listed(Bytes),
 }
 
-/// How a whole command came out.
+/// How a whole command turned out.
 #[derive(Drop)]
 pub enum Carried {
     /// It ended, and was released.
@@ -172,7 +172,7 @@ fn list(desk: &mut Desk, q: u16, cid: u16) -> Result<Bytes, Reply>
     gathered(desk.step(Step::Gather { q, cid }))
 }
 
-/// Gathers what a collected command brought: to the front of a buffer where it fits, and else as a list.
+/// Gathers what a collected command brought: to the start of a buffer where it fits, and else as a list.
 ///
 /// # Errors
 ///
@@ -216,7 +216,7 @@ fn finish(
     Ok((status, hints, brought))
 }
 
-/// Carries a reserved command on to its release. What a Read brought is laid at the front of the buffer, where it fits.
+/// Carries a reserved command on to its release. What a Read brought is laid at the start of the buffer, where it fits.
 fn carry_reserved(
     desk: &mut Desk,
     q: u16,
@@ -242,7 +242,7 @@ fn carry_reserved(
     }
 }
 
-/// Carries a command from its reservation to its release. What a Read brought is laid at the front of the buffer, where it fits.
+/// Carries a command from its reservation to its release. What a Read brought is laid at the start of the buffer, where it fits.
 pub(crate) fn carry(
     desk: &mut Desk,
     q: u16,

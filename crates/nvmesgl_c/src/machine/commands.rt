@@ -50,10 +50,10 @@ pub extern "C" fn nvmesgl_reserve(
     nvmesgl_reserve_request(alloc, handle, q, &plain(kind, slba, blocks), pieces, answer)
 }
 
-/// The most bytes that are looked at: one more than a command moves.
+/// The most bytes that are read: one more than a command moves.
 const MOST_SEEN: usize = 1_048_577;
 
-/// The bytes that are looked at.
+/// The bytes that are read.
 fn seen(bytes: &[u8]) -> &[u8]
     ensures { result.now ≡ looked_at bytes.now }
 {
@@ -64,7 +64,7 @@ fn seen(bytes: &[u8]) -> &[u8]
     }
 }
 
-/// Fills a draft with the bytes, padded with zeros to its Data length. Of more bytes than a command moves, one more than that is looked at.
+/// Fills a draft with the bytes, padded with zeros to its Data length. Of more bytes than a command moves, one more than that is read.
 #[unsafe(no_mangle)]
 pub extern "C" fn nvmesgl_fill(
     alloc: Global,
@@ -83,7 +83,7 @@ pub extern "C" fn nvmesgl_fill(
     say(alloc, handle, Step::Fill { q, cid, bytes }, answer)
 }
 
-/// Gathers a Read's bytes to the front of a buffer, with no list between: how many they are. None, and nothing is written, where no such
+/// Gathers a Read's bytes to the start of a buffer, with no list between: how many they are. None, and nothing is written, where no such
 /// command is collected, the buffer is too short, or no bench is kept.
 fn gather_from(
     alloc: Global,
@@ -105,7 +105,7 @@ fn gather_from(
     count
 }
 
-/// Gathers a Read's bytes as a list, and lays them at the front of a buffer where they fit.
+/// Gathers a Read's bytes as a list, and lays them at the start of a buffer where they fit.
 fn gather_listed(
     alloc: Global,
     handle: &mut Handle,
@@ -126,7 +126,7 @@ fn gather_listed(
     code_of_reply(&reply)
 }
 
-/// Gathers a Read's bytes into the front of a buffer. A list is made only where they were not laid: it says why, or how many they are.
+/// Gathers a Read's bytes into the start of a buffer. A list is made only where they were not laid: it says why, or how many they are.
 #[unsafe(no_mangle)]
 pub extern "C" fn nvmesgl_gather(
     alloc: Global,

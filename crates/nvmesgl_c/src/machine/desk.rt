@@ -81,7 +81,7 @@ impl Desk {
         self.bench.next_step()
     }
 
-    /// Gathers what a collected command brought to the front of a buffer, as [`gather_into`] does.
+    /// Gathers what a collected command brought to the start of a buffer, as [`gather_into`] does.
     pub fn gather_into(&self, q: u16, cid: u16, buffer: &mut [u8]) -> Option<usize>
         ensures laid { IfSome result (λ count. IsGathered (finished_at q cid self.now.finished) count buffer.old buffer.new) }
         ensures kept { IfNone result (buffer.new ≡ buffer.old) }

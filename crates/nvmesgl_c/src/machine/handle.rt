@@ -60,7 +60,7 @@ const OWN_MARK: u32 = 0x6863_616D;
 pub struct Handle {
     /// What is kept.
     kept: Kept,
-    /// [`OWN_MARK`] where there is one, and 0 in a handle that is closed. A handle with another mark is none of this kind.
+    /// [`OWN_MARK`] where there is one, and 0 in a handle that is closed. A handle with another mark is not of this kind.
     mark: u32,
     pub ghost marked: { IsMarked own_mark mark kept.bench },
 }
@@ -72,7 +72,7 @@ impl Handle {
     ///
     /// # Errors
     ///
-    /// The code, where none is kept: the handle is closed, or none of this kind.
+    /// The code, where none is kept: the handle is closed, or not of this kind.
     pub fn take(&mut self, alloc: Global) -> Result<Box<Desk, Global>, u32>
         ensures taken { IfOk result (λ taken. kept_in self.old ≡ Ok taken.value) }
         ensures left { OnOk result (kept_in self.new ≡ Err self.new) }
@@ -99,7 +99,7 @@ impl Handle {
         };
     }
 
-    /// What an opening is refused with for what the handle is: it is open, or none of this kind.
+    /// What an opening is refused with for what the handle is: it is open, or not of this kind.
     pub fn cause(&self) -> Option<u32>
         ensures { result ≡ cause_in (kept_in self.now) }
     {

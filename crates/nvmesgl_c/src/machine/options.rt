@@ -3,7 +3,7 @@
 /// How many bytes [`Options`] has.
 pub(crate) const SIZE: u32 = 64;
 
-/// What a handle is opened with, beside an image. A later version may give a meaning to a word that is reserved now.
+/// What a handle is opened with, besides an image. A later version may give a meaning to a word that is reserved now.
 #[repr(C)]
 #[derive(Clone, Copy)]
 pub struct Options {
@@ -17,7 +17,7 @@ pub struct Options {
     pub entries: u32,
     /// The most descriptors of a segment, 2 to 256.
     pub segment: u32,
-    /// The blocks of an image of zeros, 1 to 65,536; looked at only where no image is given.
+    /// The blocks of an image of zeros, 1 to 65,536; read only where no image is given.
     pub blocks: u32,
     /// Zeros.
     pub reserved: [u32; 10],

@@ -21,7 +21,7 @@ use crate::words::{
 use std::alloc::Global;
 use step_core::{Bytes, Kind, Request};
 
-/// Carries a command of the bench that a handle keeps. What a Read brought is laid at the front of the buffer, where it fits.
+/// Carries a command of the bench that a handle keeps. What a Read brought is laid at the start of the buffer, where it fits.
 ///
 /// # Errors
 ///
@@ -150,7 +150,7 @@ pub(crate) fn listed(carried: &Result<Carried, u32>) -> Option<&[u8]>
     }
 }
 
-/// Lays what a Read brought as a list at the front of a buffer. The code of the command; or that the buffer is too short.
+/// Lays what a Read brought as a list at the start of a buffer. The code of the command; or that the buffer is too short.
 fn lay(carried: &Result<Carried, u32>, buffer: &mut [u8]) -> u32
     ensures { LaysOn carried.now result buffer.old buffer.new }
 {

@@ -52,7 +52,7 @@ fn use_of(number: u32) -> Option<PageUse>
     }
 }
 
-/// The pieces of so many bytes from the start of a page: none of no bytes.
+/// The pieces of this many bytes from the start of a page: none of no bytes.
 ///
 /// # Errors
 ///

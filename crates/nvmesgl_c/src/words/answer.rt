@@ -78,7 +78,7 @@ pub fn nothing() -> Answer
     }
 }
 
-/// The number of the page at a place of a list, or 0 behind its end.
+/// The number of the page at a position in a list, or 0 after its end.
 fn page_at(pages: &[PageNo], place: usize) -> u32
     ensures { result ≡ unwrap_or (slice_get pages.now place) 0 }
 {

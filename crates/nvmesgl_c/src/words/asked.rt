@@ -1,4 +1,4 @@
-//! A command as C asks for it: a struct, beside the pieces of its data.
+//! A command as C asks for it: a struct, besides the pieces of its data.
 
 ghost use Rattle.std.specs.Prelude.{◌≡◌};
 ghost use Rattle.nvmesgl_c.specs.Requests as requests;
@@ -18,7 +18,7 @@ const FORCE_UNIT_ACCESS: u32 = 1;
 /// The bit of Limited Retry.
 const LIMITED_RETRY: u32 = 2;
 
-/// What a command asks for, beside its pieces. A later version may give a meaning to a word that is reserved now.
+/// What a command asks for, besides its pieces. A later version may give a meaning to a word that is reserved now.
 #[repr(C)]
 #[derive(Clone, Copy)]
 pub struct CRequest {
@@ -69,7 +69,7 @@ fn flags_of(number: u32) -> Option<Flags>
     })
 }
 
-/// The block size of so many bytes, if there is one.
+/// The block size of this many bytes, if there is one.
 fn size_of(bytes: u32) -> Option<BlockSize>
     ensures { result ≡ requests.size_of_bytes bytes }
 {
@@ -79,7 +79,7 @@ fn size_of(bytes: u32) -> Option<BlockSize>
     BlockSize::of(u64::from(bytes))
 }
 
-/// The request that C asks for. Of more pieces than a command has, one more than that is looked at.
+/// The request that C asks for. Of more pieces than a command has, one more than that is read.
 ///
 /// # Errors
 ///

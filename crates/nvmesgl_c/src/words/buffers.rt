@@ -21,7 +21,7 @@ pub struct CBuffer<'a> {
     pub bytes: &'a mut [u8],
 }
 
-/// How many bytes there are to read, or so many where there are more.
+/// How many bytes there are to read, or this many where there are more.
 fn bytes_up_to(sources: &[CBytes<'_>], most: usize) -> usize
     requires { most < 2 ^ 63 }
     ensures { result ≡ min (length (joined sources.now)) most }
@@ -33,7 +33,7 @@ fn bytes_up_to(sources: &[CBytes<'_>], most: usize) -> usize
     count
 }
 
-/// How many bytes there is room for, or so many where there is more.
+/// How many bytes there is room for, or this many where there is more.
 fn room_up_to(buffers: &[CBuffer<'_>], most: usize) -> usize
     requires { most < 2 ^ 63 }
     ensures { result ≡ min (length (joined_buffers buffers.now)) most }
@@ -69,7 +69,7 @@ pub fn room_of(buffers: &[CBuffer<'_>]) -> Option<usize>
     if room > MOST_MOVED { None } else { Some(room) }
 }
 
-/// A copy of the bytes, of which there are so many.
+/// A copy of the bytes, of which there are this many.
 ///
 /// # Errors
 ///
@@ -84,7 +84,7 @@ pub fn copy_of(alloc: Global, sources: &[CBytes<'_>], count: usize) -> Result<Ve
     Ok(copied)
 }
 
-/// Lays bytes into the front of others, as many as fit: how many those are.
+/// Lays bytes into the start of others, as many as fit: how many those are.
 fn fill(into: &mut [u8], bytes: &[u8]) -> usize
     ensures count { result ≡ min (length into.old) (length bytes.now) }
     ensures filled { into.new ≡ filled bytes.now into.old }
@@ -94,7 +94,7 @@ fn fill(into: &mut [u8], bytes: &[u8]) -> usize
     count
 }
 
-/// Lays bytes into the front of a buffer, as many as fit: how many those are.
+/// Lays bytes into the start of a buffer, as many as fit: how many those are.
 fn fill_buffer(buffer: &mut CBuffer<'_>, bytes: &[u8]) -> usize
     ensures place { buffer.new.bytes.ghost_name ≡ buffer.old.bytes.ghost_name }
     ensures count { result ≡ min (length buffer.old.bytes.now) (length bytes.now) }
@@ -116,7 +116,7 @@ fn scatter(bytes: &[u8], buffers: &mut [CBuffer<'_>])
     }
 }
 
-/// Lays bytes at the front of a buffer, where there is room for all: whether there is.
+/// Lays bytes at the start of a buffer, where there is room for all: whether there is.
 pub fn lay_in(bytes: &[u8], buffer: &mut [u8]) -> bool
     ensures { LaidIn bytes.now result buffer.old buffer.new }
 {

@@ -37,14 +37,14 @@ pub const BAD_COUNT: u32 = 43;
 /// No handle of the kind that the call takes.
 pub const NO_HANDLE: u32 = 57;
 
-/// The code of a handle that keeps nothing, by its mark: it is closed, or none of this kind.
+/// The code of a handle that keeps nothing, by its mark: it is closed, or not of this kind.
 pub fn code_of_mark(mark: u32) -> u32
     ensures { result ≡ keeping.code_of_mark mark }
 {
     if mark == 0 { CLOSED } else { NO_HANDLE }
 }
 
-/// What an opening of a handle is refused with, by its mark and by that of its kind: it is open, or none of this kind.
+/// What an opening of a handle is refused with, by its mark and by that of its kind: it is open, or not of this kind.
 pub fn cause_of_mark(mark: u32, own: u32) -> Option<u32>
     ensures { result ≡ keeping.cause_by own mark }
 {

@@ -6,7 +6,7 @@ ghost use Rattle.nvmesgl_c.specs.Images.{image_of, IsGoodImage, IsNoImage};
 use block_image::{BLOCK_SIZE, Image, ImageError, MAX_BYTES};
 use std::alloc::Global;
 
-/// The image of the bytes, or of so many blocks of zeros where no byte is given.
+/// The image of the bytes, or of this many blocks of zeros where no byte is given.
 ///
 /// # Errors
 ///

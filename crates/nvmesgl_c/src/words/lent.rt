@@ -1,7 +1,7 @@
 //! The bytes that a caller lends for one call, as the memory of a controller.
 //!
-//! A [`LentMemory`] is a [`Dma`] over a slice: the byte at an address is that of the slice, and an address behind its end is unreadable. It serves
-//! who has a pool of his own, as an emulator has a guest's memory, and lends it a call at a time. Each memory that is lent is [`Lent`].
+//! A [`LentMemory`] is a [`Dma`] over a slice: the byte at an address is that of the slice, and an address after its end is unreadable. It serves
+//! whoever has a pool of his own, as an emulator has a guest's memory, and lends it a call at a time. Each memory that is lent is [`Lent`].
 
 ghost use Rattle.std.specs.Prelude.{◌≡◌, ◌+◌, ◌<◌, ◌≤◌, ◌++◌, [], length, true, false};
 ghost use Rattle.page_memory.specs.Memory.{pages_reached};
@@ -51,7 +51,7 @@ pub(crate) fn touch(touched: &mut ArrayVec<PageNo, 4>, addr: u64, count: usize)
     }
 }
 
-/// Whether a range lies in so many bytes.
+/// Whether a range lies in this many bytes.
 pub(crate) fn is_inside(addr: u64, count: usize, len: usize) -> bool
     ensures inside { result ≡ true → addr + count ≤ len }
     ensures outside { result ≡ false → len < addr + count }
@@ -60,7 +60,7 @@ pub(crate) fn is_inside(addr: u64, count: usize, len: usize) -> bool
     addr <= len && count as u64 <= len - addr
 }
 
-/// Overwrites bytes from a place on.
+/// Overwrites bytes starting at a position.
 pub(crate) fn put(into: &mut [u8], at: usize, bytes: &[u8])
     requires { at + length bytes.now ≤ length into.old }
     ensures bytes { into.new ≡ with_bytes into.old at bytes.now }
@@ -76,7 +76,7 @@ impl<'a> Dma for LentMemory<'a> {
 
     ghost reached = { λ m. m.touched.items };
 
-    // the name of the borrow: no call changes it, so what stands in the bytes afterwards is the lender's
+    // the name of the borrow: no call changes it, so what is in the bytes afterwards is the lender's
     ghost unlisted = { λ m. m.bytes.ghost_name };
 
     ghost page_count = { λ m. length m.bytes.now / 4096 };

@@ -25,7 +25,8 @@ impl<'a, 'b> Dma for LentRegions<'a, 'b> {
 
     ghost reached = { λ m. m.touched.items };
 
-    // the name of the borrow, the table, and the bytes that no address shows: no call changes them, so what stands in the regions afterwards is the lender's
+    // the name of the borrow, the table, and the bytes that no address shows: no call changes them, so what is in the regions afterwards is the
+    // lender's
     ghost unlisted = { λ m. paired m.regions.ghost_name (paired (number_of (table_of m.regions.now)) (lists_number (hidden_in m.regions.now))) };
 
     ghost page_count = { λ m. m.pages };

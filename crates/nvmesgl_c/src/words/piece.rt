@@ -7,7 +7,7 @@ ghost use Rattle.nvmesgl_c.specs.Requests as requests;
 use io_commands::{Kind, Piece, Pieces};
 use std::alloc::Global;
 
-/// `len` bytes from `offset` on in a page of their own, or so many that a Read discards.
+/// `len` bytes starting at `offset` in a page of their own, or this many that a Read discards.
 #[repr(C)]
 #[derive(Clone, Copy)]
 pub struct CPiece {
@@ -19,7 +19,7 @@ pub struct CPiece {
     pub kind: u32,
 }
 
-/// The most pieces that are looked at: one more than a command has.
+/// The most pieces that are read: one more than a command has.
 const MOST_SEEN: usize = 1_025;
 
 /// Why C's pieces are none.
@@ -52,7 +52,7 @@ fn piece_of(piece: CPiece) -> Piece
     }
 }
 
-/// The pieces that C means, all of which are looked at.
+/// The pieces that C means, all of which are read.
 ///
 /// # Errors
 ///
@@ -77,7 +77,7 @@ fn made_of(alloc: Global, pieces: &[CPiece]) -> Result<Pieces, NoPieces>
     Ok(made)
 }
 
-/// The pieces that C means. Of more than a command has, one more than that is looked at.
+/// The pieces that C means. Of more than a command has, one more than that is read.
 ///
 /// # Errors
 ///

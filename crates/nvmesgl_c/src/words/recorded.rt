@@ -18,7 +18,7 @@ pub struct Recorded<'a, M> {
 impl<'a, M: Lent> Dma for Recorded<'a, M> {
     ghost use Rattle.nvmesgl_c.specs.{Named.named_memory, Regions.paired};
 
-    // the name of the borrow and what the memory keeps stand behind all addresses, since each count here has another use
+    // the name of the borrow and what the memory keeps are beyond all addresses, since each count here has another use
     ghost memory = { λ m. named_memory (M.memory m.lent.now) (paired m.lent.ghost_name (M.unlisted m.lent.now)) };
 
     ghost reached = { λ m. M.reached m.lent.now };

@@ -1,6 +1,6 @@
 //! Memory that C lends as regions, each at addresses of its own.
 //!
-//! At an address stands the byte of the first region that has one there. A range may lie in several regions, one after the other: it is
+//! At an address is the byte of the first region that has one there. A range may lie in several regions, one after the other: it is
 //! moved in runs, each as long as one region serves.
 
 ghost use Rattle.std.specs.Prelude.{◌≡◌, ◌≢◌, ◌+◌, ◌<◌, ◌≤◌, ℕ, true, false, IfNone, IfSome, IsSome, None, OnErr, OnOk, Some, length, max, slice_index};
@@ -26,7 +26,7 @@ pub struct CRegion<'a> {
 /// Bytes that one region has, one after the other.
 #[derive(Clone, Copy)]
 pub struct Run {
-    /// The place of the region in the table.
+    /// The index of the region in the table.
     pub place: usize,
     /// Where the bytes begin in it.
     pub at: usize,
@@ -37,9 +37,9 @@ pub struct Run {
 /// What one region has of a range.
 #[derive(Clone, Copy)]
 enum Share {
-    /// So many bytes from the front of the range on, which begin there in the region.
+    /// This many bytes from the start of the range, which begin there in the region.
     Front { at: usize, count: usize },
-    /// None of so many bytes from the front of the range on.
+    /// None of this many bytes from the start of the range.
     Clear { count: usize },
 }
 
@@ -64,7 +64,7 @@ fn share_of(region: &CRegion<'_>, addr: u64, most: usize) -> Share
     Share::Clear { count: most }
 }
 
-/// The bytes from an address on, at most so many, that the first region with one there serves. None where none is wanted, or none is there.
+/// The bytes starting at an address, at most this many, that the first region with one there serves. None where none is wanted, or none is there.
 fn run_at(regions: &[CRegion<'_>], addr: u64, most: usize) -> Option<Run>
     ensures run { IfSome result (λ run. IsRun regions.now addr most run) }
     ensures none { IfNone result (0 < most → byte_in regions.now addr ≡ None) }
@@ -110,7 +110,7 @@ fn copy_from(regions: &[CRegion<'_>], addr: u64, into: &mut [u8])
     }
 }
 
-/// Overwrites bytes of one region from a place on.
+/// Overwrites bytes of one region starting at a position.
 fn put_into(region: &mut CRegion<'_>, at: usize, bytes: &[u8])
     requires { at + length bytes.now ≤ length region.old.bytes.now }
     ensures addr { region.new.addr ≡ region.old.addr }
@@ -159,7 +159,7 @@ pub(crate) fn read_range(
     Ok(())
 }
 
-/// Puts bytes from an address on, or answers `Unreadable` exactly where one is missing. All others stay, and so does the table.
+/// Puts bytes starting at an address, or answers `Unreadable` exactly where one is missing. All others stay, and so does the table.
 pub(crate) fn write_range(
     regions: &mut [CRegion<'_>],
     addr: u64,
@@ -192,7 +192,7 @@ fn pages_to_end(region: &CRegion<'_>) -> u32
     (end / 4096).min(4_294_967_295) as u32
 }
 
-/// The larger of so many pages and those up to the end of a region.
+/// The larger of this many pages and those up to the end of a region.
 fn pages_with(pages: u32, region: &CRegion<'_>) -> u32
     ensures { result ≡ max pages (pages_up_to region.now) }
 {

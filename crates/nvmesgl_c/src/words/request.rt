@@ -1,4 +1,4 @@
-//! The request of so many bytes in a row.
+//! The request of this many bytes in a row.
 
 ghost use Rattle.std.specs.Prelude.{◌≡◌, ◌≤◌, IfOk};
 ghost use Rattle.nvmesgl_c.specs.Requests as requests;
@@ -12,7 +12,7 @@ pub const MOST_MOVED: usize = 1_048_576;
 /// How many bytes a page has.
 const PAGE: usize = 4_096;
 
-/// A piece for each page that so many bytes fill, and one for what is left.
+/// A piece for each page that this many bytes fill, and one for what is left.
 ///
 /// # Errors
 ///
@@ -37,7 +37,7 @@ fn pieces_for(alloc: Global, len: usize) -> Result<Pieces, AllocError>
     Ok(pieces)
 }
 
-/// The request of so many bytes in a row.
+/// The request of this many bytes in a row.
 ///
 /// # Errors
 ///

@@ -17,11 +17,11 @@ use world_bench::Bench;
 
 /// A bench, in any heap.
 pub struct OnBench<A: Allocator = Global> {
-    /// Where the replies stand that are handed out.
+    /// Where the replies that are handed out lie.
     pub alloc: Global,
-    /// Where all else stands.
+    /// Where all else lies.
     pub heap: A,
-    /// The bench. The values of steps that are made on it stand in its heap.
+    /// The bench. The values of steps that are made on it lie in its heap.
     pub bench: Bench<A>,
 }
 

@@ -15,9 +15,9 @@ use std::fmt::{Display, Formatter, Write};
 pub struct Difference {
     /// The number of the line in the transcript, from 1: that of the answer, or the last line before the place where one is missing.
     pub number: u32,
-    /// What stands there. None where more was printed than stands there.
+    /// What is there. None where more was printed than is there.
     pub wanted: Option<String>,
-    /// What was printed. None where less was printed than stands there.
+    /// What was printed. None where less was printed than is there.
     pub came: Option<String>,
 }
 
@@ -51,7 +51,7 @@ fn alike(wanted: &[u8], came: &[u8]) -> usize
 }
 
 impl Difference {
-    /// What stands there and what was printed, each `nothing` where there is none.
+    /// What is there and what was printed, each `nothing` where there is none.
     pub fn texts(&self) -> (&str, &str)
         ensures wanted { result.0.now ≡ text_or_nothing (option_map string_bytes self.now.wanted) }
         ensures came { result.1.now ≡ text_or_nothing (option_map string_bytes self.now.came) }
@@ -59,7 +59,7 @@ impl Difference {
         (text_or(&self.wanted), text_or(&self.came))
     }
 
-    /// The column of its line where it begins, from 1; an answer stands behind `> `.
+    /// The column of its line where it begins, from 1; an answer follows `> `.
     pub fn column(&self) -> usize
         ensures { result ≡ column_of (option_map string_bytes self.now.wanted) (option_map string_bytes self.now.came) }
     {
@@ -78,7 +78,7 @@ impl Display for Difference {
     }
 }
 
-/// A difference, of which each text is owned.
+/// A difference whose texts are each owned.
 fn different(
     alloc: Global,
     number: u32,

@@ -4,7 +4,7 @@ use crate::{ImageFault, LineFault, RunFault};
 use std::alloc::AllocError;
 use thiserror::Error;
 
-/// Why a text is no transcript.
+/// Why a text is not a transcript.
 #[derive(Clone, Copy, Debug, PartialEq, Eq, Error)]
 pub enum TranscriptFault {
     /// The first line of a script that is at fault.
@@ -38,7 +38,7 @@ impl From<AllocError> for TranscriptFault {
 /// Why nothing was opened for a transcript.
 #[derive(Clone, Copy, Debug, PartialEq, Eq, Error)]
 pub enum OpeningFault {
-    /// The image has no 1 to 65,536 blocks, or memory was refused for it.
+    /// The image does not have 1 to 65,536 blocks, or memory was refused for it.
     #[error("{0}")]
     Image(ImageFault),
     /// The pool or its queues are refused, or memory was refused for them.

@@ -1,18 +1,18 @@
-//! Steps and replies whose values stand in another heap.
+//! Steps and replies whose values lie in another heap.
 
 ghost use Rattle.std.specs.Prelude.{◌≡◌, IfOk};
 
 use std::alloc::{AllocError, Allocator};
 use step_core::{Bytes, Reply, ReplyIn, Step, StepIn};
 
-/// The bytes once more, in a heap.
+/// A copy of the bytes, in a heap.
 fn bytes_in<A: Allocator, B: Allocator>(heap: A, bytes: &Bytes<B>) -> Result<Bytes<A>, AllocError>
     ensures { IfOk result (λ made. made ≡ bytes.now) }
 {
     Ok(Bytes::from_vec(Vec::from_slice(heap, bytes.as_slice())?))
 }
 
-/// The step once more, in a heap.
+/// A copy of the step, in a heap.
 ///
 /// # Errors
 ///
@@ -59,7 +59,7 @@ pub fn step_in<A: Allocator + Copy>(heap: A, step: &Step) -> Result<StepIn<A>, A
     })
 }
 
-/// The reply once more, in a heap.
+/// A copy of the reply, in a heap.
 ///
 /// # Errors
 ///

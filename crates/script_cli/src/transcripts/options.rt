@@ -105,7 +105,7 @@ pub enum WhyBad {
     /// It names none.
     #[error("options are pages, queues, entries, segment and blocks, each as --pages 32 or pages=32")]
     Unknown,
-    /// No number stands behind it, or one that is too large.
+    /// No number follows it, or one that is too large.
     #[error("a number of 32 bits is wanted for it")]
     NoNumber,
     /// It was said before.
@@ -117,7 +117,7 @@ pub enum WhyBad {
     /// It is the number of submitters, and this is a script of steps.
     #[error("a script of steps has no submitters; one of jobs is played by 'nvmesgl threads'")]
     Jobs,
-    /// It is a number of submitters that there may not be.
+    /// It is a number of submitters that is not allowed.
     #[error("submitters are 1 to 16")]
     Submitters,
 }
@@ -127,7 +127,7 @@ pub enum WhyBad {
 pub struct BadOption<'a> {
     /// The word.
     pub word: &'a [u8],
-    /// How many words of options stand before it.
+    /// How many words of options come before it.
     pub before: usize,
     /// Why it says none.
     pub why: WhyBad,
@@ -182,7 +182,7 @@ fn unhyphened(word: &[u8]) -> &[u8]
     }
 }
 
-/// What stands before and behind the equals sign of a word.
+/// What is before and after the equals sign of a word.
 fn split_equals(word: &[u8]) -> Option<(&[u8], &[u8])>
     ensures { MatchOption result (onward is_equals word.now ≡ []) (λ parts. (parts.0.now ≡ before is_equals word.now) × (equals : ℕ) × (onward is_equals word.now ≡ equals ∷ parts.1.now)) }
 {
@@ -230,7 +230,7 @@ impl<'a> Said<'a> {
     }
 }
 
-/// A number of submitters that there may be.
+/// An allowed number of submitters.
 fn few(number: Option<u32>) -> Option<u32>
     ensures value { result ≡ spec_few number }
     ensures few { AreFew result }
@@ -277,7 +277,7 @@ impl SaidOptions {
         submitters: None,
     };
 
-    /// One option more.
+    /// One more option.
     fn with(self, kind: ScriptKind, name: &[u8], number: Option<u32>) -> Result<SaidOptions, WhyBad>
         requires few { AreFew self.submitters }
         ensures few { IfOk result (λ said. AreFew said.submitters) }

@@ -11,11 +11,11 @@ use step_core::{Counts, Owner, PageNo, Reply, Step};
 
 /// What makes steps, over a pool of pages.
 pub trait StepMaker {
-    /// Makes a step, and answers what it answered. Want of memory inside the step is such an answer.
+    /// Makes a step, and answers what it answered. Lack of memory inside the step is such an answer.
     ///
     /// # Errors
     ///
-    /// Where memory is refused for what stands around the step.
+    /// Where memory is refused for what surrounds the step.
     fn step(&mut self, step: &Step) -> Result<Reply, AllocError>;
 
     /// The owner of a page; `None` for one that the pool does not have.
@@ -72,7 +72,7 @@ fn line_text<M: StepMaker>(
     }
 }
 
-/// What a line prints; behind the last one stand the counts.
+/// What a line prints; after the last one come the counts.
 pub(crate) fn told_text<M: StepMaker>(
     alloc: Global,
     maker: &mut M,
@@ -86,7 +86,7 @@ pub(crate) fn told_text<M: StepMaker>(
     Ok(text)
 }
 
-/// Plays a transcript, and answers the first difference between what is printed and what stands there. Then the steps behind it are not made.
+/// Plays a transcript, and answers the first difference between what is printed and what is there. Then the steps after it are not made.
 ///
 /// # Errors
 ///

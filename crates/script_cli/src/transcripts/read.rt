@@ -31,7 +31,7 @@ pub struct Told {
     pub number: u32,
     /// What it is.
     pub line: Line,
-    /// What must be printed, up to the next line of the script, and behind the last one also the counts.
+    /// What must be printed, up to the next line of the script, and after the last one also the counts.
     pub answers: Vec<Answer>,
 }
 
@@ -74,7 +74,7 @@ impl Transcript {
     }
 }
 
-/// What stands behind a blank.
+/// What follows a blank.
 fn behind_blank(text: &str) -> Option<&str>
     ensures { option_map (λ behind. behind.now) result ≡ spec_behind_blank text.now }
 {
@@ -84,7 +84,7 @@ fn behind_blank(text: &str) -> Option<&str>
     }
 }
 
-/// A text without the blanks at its front.
+/// A text without the blanks at its start.
 #[tactic(auto, using(crate::proofs::Answers::goes_behind, crate::proofs::Answers::is_shorter, crate::proofs::Answers::stands))]
 fn unindented(text: &str) -> &str
     ensures { result.now ≡ onward is_solid text.now }
@@ -96,7 +96,7 @@ fn unindented(text: &str) -> &str
     rest
 }
 
-/// What stands behind the sign of an answer and a blank, if a blank or nothing stands behind the sign.
+/// What follows the sign of an answer and a blank, if a blank or nothing follows the sign.
 fn behind_its_blank(behind: &str) -> Option<&str>
     ensures { option_map (λ text. text.now) result ≡ behind_sign behind.now }
 {
@@ -107,7 +107,7 @@ fn behind_its_blank(behind: &str) -> Option<&str>
     }
 }
 
-/// The text of an answer, if a line is one, whose first word is the sign: what stands behind that and a blank.
+/// The text of an answer, if a line is one, whose first word is the sign: what follows that and a blank.
 pub fn answer_of(line: &str) -> Option<&str>
     ensures { option_map (λ text. text.now) result ≡ spec_answer_of line.now }
 {
@@ -136,7 +136,7 @@ fn script_line(alloc: Global, number: u32, line: &str) -> Result<Line, Transcrip
     }
 }
 
-/// What a line of this number is that is no answer.
+/// What a line of this number is that is not an answer.
 fn other_line(alloc: Global, number: u32, line: &str) -> Result<Line, TranscriptFault>
     ensures { MatchResult result (λ what. no_answer number line.now ≡ Ok (LineText.a_line what)) (IsFaultOf (no_answer number line.now)) }
 {
@@ -188,7 +188,7 @@ fn add_answer(last: Told, number: u32, text: String) -> Result<Told, AllocError>
     Ok(last)
 }
 
-/// Puts the last line of the script behind those so far, where one comes that does something, which is then the last.
+/// Adds the last line of the script after those so far, where another one that does something comes and is then the last.
 fn add_line(
     alloc: Global,
     told: &mut Vec<Told>,

@@ -18,12 +18,12 @@ use std::alloc::{AllocError, Global};
 /// The most bytes of a transcript.
 pub const MAX_TRANSCRIPT: usize = 16_777_216;
 
-/// How a transcript came out.
+/// How a transcript turned out.
 #[derive(Debug, Drop)]
 pub enum Outcome {
-    /// What is printed is what stands there.
+    /// What is printed is what is there.
     Agrees,
-    /// What is printed is what stands there, but over options that it does not say.
+    /// What is printed is what is there, but over options that it does not say.
     Unsaid {
         /// The text, with the options.
         updated: String,
@@ -32,16 +32,16 @@ pub enum Outcome {
     Differs {
         /// The first difference.
         difference: Difference,
-        /// The text, with what was printed in place of what stands there, and with the options.
+        /// The text, with what was printed in place of what is there, and with the options.
         updated: String,
     },
-    /// It is no transcript.
+    /// It is not a transcript.
     Fault(TranscriptFault),
     /// Nothing was opened for it.
     NotOpened(OpeningFault),
 }
 
-/// The number of the line that stands behind some bytes.
+/// The number of the line that follows some bytes.
 fn line_behind(front: &[u8]) -> u32
     ensures { result ≡ min (feeds_in front.now + 1) 4294967295 }
 {
@@ -60,7 +60,7 @@ fn line_behind(front: &[u8]) -> u32
 ///
 /// # Errors
 ///
-/// Where it is too long or no text; the fault of what is no text is that of the line of the first byte that is none.
+/// Where it is too long or no text; the fault of what is not text is that of the line of the first byte that is none.
 pub fn text_of(bytes: &[u8]) -> Result<&str, TranscriptFault>
     ensures text { IfOk result (λ text. text.now ≡ bytes.now) }
     ensures good { IfOk result (λ text. IsUtf8 bytes.now) }
@@ -90,7 +90,7 @@ fn count_lines(text: &str) -> u32
     count
 }
 
-/// A difference, told at the last line of the text where it stands before any step, as of a text that has none.
+/// A difference, told at the last line of the text where it comes before any step, as of a text that has none.
 fn placed(difference: Difference, text: &str) -> Difference
     ensures { difference_text result ≡ spec_placed text.now (difference_text difference) }
 {
@@ -121,7 +121,7 @@ fn options_line(
     Ok(Some(options.line(alloc)?))
 }
 
-/// The first difference between what the lines printed and what stands there.
+/// The first difference between what the lines printed and what is there.
 fn first_of_all(
     alloc: Global,
     told: &[Told],
@@ -145,7 +145,7 @@ fn first_of_all(
     Ok(None)
 }
 
-/// Compares what each line of a text printed with what stands there; with the line of options that it has to say, if it does not say them.
+/// Compares what each line of a text printed with what is there; with the line of options that it has to say, if it does not say them.
 ///
 /// # Errors
 ///
@@ -173,12 +173,12 @@ pub fn compared(
     }
 }
 
-/// Plays the text of a transcript over a bench of its own, to its end, and compares what is printed with what stands there. An option that the
+/// Plays the text of a transcript over a bench of its own, to its end, and compares what is printed with what is there. An option that the
 /// transcript does not say is one of these.
 ///
 /// # Errors
 ///
-/// Where memory is refused for what stands around the transcript and its bench.
+/// Where memory is refused for what surrounds the transcript and its bench.
 pub fn test_transcript(alloc: Global, bytes: &[u8], usual: Options) -> Result<Outcome, AllocError> {
     let text = match text_of(bytes) {
         Ok(text) => text,

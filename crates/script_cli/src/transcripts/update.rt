@@ -1,11 +1,11 @@
-//! The text of a transcript with what was printed in place of what stands there.
+//! The text of a transcript with what was printed in place of what is there.
 
 use crate::transcripts::options::OPTIONS;
 use crate::transcripts::read::{Told, answer_of};
 use std::alloc::{AllocError, Global};
 
-/// The number of the line below which the answers of a line of the script stand: its own, or that of the first answer. It is 0 for what must be
-/// printed before any step, where nothing stands there.
+/// The number of the line below which the answers of a line of the script are: its own, or that of the first answer. It is 0 for what must be
+/// printed before any step, where nothing is there.
 fn place_of(told: &Told) -> u32 {
     match told.answers.first() {
         Some(answer) => answer.number,
@@ -28,7 +28,7 @@ fn says_options(number: u32, line: &str) -> bool {
     number == 1 && line.starts_with(OPTIONS)
 }
 
-/// The text of a transcript, with what each of its lines printed in place of what stands there: where the answers of a line begin, or else just
+/// The text of a transcript, with what each of its lines printed in place of what is there: where the answers of a line begin, or else just
 /// below it. If there is a line of options, it is the first one, in place of the one that says them. All other lines stay; each line ends with a line feed.
 ///
 /// # Errors

@@ -1,4 +1,4 @@
-//! A driver: a book, or a book behind its lock.
+//! A driver: a book, or a book under its lock.
 
 use crate::desk::answers::{done, refused, sent};
 use driver_book::{Book, FullLogBrand};
@@ -11,11 +11,11 @@ use step_core::{Reply, ReplyIn, Step, StepIn, StepRefused};
 pub enum Access<L: FullLogBrand, A: Allocator = Global> {
     /// The book itself.
     Book(Book<L, A>),
-    /// The book behind its lock.
+    /// The book under its lock.
     Lock(Shared<L, A>),
 }
 
-/// Makes a step through a book that no command is handed in for or comes of. Any other is `NoValue`.
+/// Makes a step through a book, one that takes no command and gives none. Any other is `NoValue`.
 ///
 /// # Errors
 ///
@@ -59,7 +59,7 @@ pub fn step_through_book<L: FullLogBrand, A: Allocator + Copy>(
     })
 }
 
-/// Makes a step behind a lock that no command is handed in for or comes of. Any other is `NoValue`.
+/// Makes a step under a lock, one that takes no command and gives none. Any other is `NoValue`.
 ///
 /// # Errors
 ///

@@ -31,7 +31,7 @@ pub fn sent<A: Allocator>(answer: Result<u16, Refusal>) -> ReplyIn<A> {
     }
 }
 
-/// What a call answers, once the command that comes of it, or comes back from it, is put behind the others.
+/// What a call answers, once the command that comes of it, or comes back from it, is put after the others.
 ///
 /// # Errors
 ///

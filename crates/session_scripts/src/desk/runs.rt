@@ -33,7 +33,7 @@ pub struct Outcome<A: Allocator = Global> {
     pub refusals: usize,
 }
 
-/// Puts down the owner of each page of a book, and answers how many entries of its log are refusals.
+/// Records the owner of each page of a book, and answers how many entries of its log are refusals.
 fn look_at<L: LogBrand, A: Allocator + Copy>(
     book: &Book<L, A>,
     owners: &mut Vec<Owner, A>,
@@ -98,7 +98,7 @@ fn outcome_of<
     }
 }
 
-/// Runs jobs over a new book, whose image has so many zero blocks, each submitter with so many in flight at most, where this one serves.
+/// Runs jobs over a new book, whose image has this many zero blocks, each submitter with at most this many in flight, where this one serves.
 pub fn play_at<A: Allocator + Copy + Send + Sync, G: Gate + Sync, R: Threads + Wait + Sync>(
     rt: &R,
     alloc: A,
@@ -130,7 +130,7 @@ pub fn play_at<A: Allocator + Copy + Send + Sync, G: Gate + Sync, R: Threads + W
     )
 }
 
-/// Runs jobs one after the other for each submitter, over a new book, whose image has so many zero blocks. Who rings serves.
+/// Runs jobs one after the other for each submitter, over a new book, whose image has this many zero blocks. Whoever rings serves.
 pub fn play<A: Allocator + Copy + Send + Sync, G: Gate + Sync, R: Threads + Wait + Sync>(
     rt: &R,
     alloc: A,
@@ -145,7 +145,7 @@ pub fn play<A: Allocator + Copy + Send + Sync, G: Gate + Sync, R: Threads + Wait
     play_at(rt, alloc, config, blocks, jobs, 1, Server::Ringer, gate)
 }
 
-/// A job of so many blocks, each in a piece of its own.
+/// A job of this many blocks, each in a piece of its own.
 pub fn job<A: Allocator + Copy>(
     alloc: A,
     q: u16,

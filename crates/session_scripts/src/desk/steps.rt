@@ -5,7 +5,7 @@ use crate::desk::values::{Value, draft_of, finished_of};
 use std::alloc::{AllocError, Allocator};
 use step_core::{Bytes, Refusal, Reply};
 
-/// Fills a draft with the bytes, and with zeros behind them.
+/// Fills a draft with the bytes, and with zeros after them.
 ///
 /// # Errors
 ///

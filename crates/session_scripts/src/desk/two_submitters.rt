@@ -20,7 +20,7 @@ const JOBS: [(Kind, u8); 6] = [
     (Kind::Read, 2),
 ];
 
-/// Three Writes of a block from `first` on, of this byte and the two that follow it, and the Reads of these blocks.
+/// Three Writes of a block starting at `first`, of this byte and the two that follow it, and the Reads of these blocks.
 pub fn writes_and_reads<A: Allocator + Copy>(
     alloc: A,
     q: u16,
@@ -40,7 +40,7 @@ pub fn writes_and_reads<A: Allocator + Copy>(
 /// Two submitters' jobs on one queue: that queue, the first block, and the byte with which that begins.
 pub const ON_ONE_QUEUE: [(u16, u64, u8); 2] = [(1, 0, 0xA0), (1, 8, 0xB0)];
 
-/// The jobs of two submitters: on which queue, from which block on, and of which bytes.
+/// The jobs of two submitters: on which queue, starting at which block, and of which bytes.
 pub fn two_lists<A: Allocator + Copy>(
     alloc: A,
     asked: [(u16, u64, u8); 2],

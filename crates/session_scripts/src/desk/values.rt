@@ -26,7 +26,7 @@ pub enum Value<A: Allocator = Global> {
 }
 
 impl<A: Allocator> Value<A> {
-    /// Whether it has come so far, and is of this queue and identifier.
+    /// Whether it has come this far, and is of this queue and identifier.
     fn is(&self, what: What, q: u16, cid: u16) -> bool {
         let (own, own_q, own_cid) = match self {
             Value::Draft(draft) => (What::Draft, draft.q(), draft.cid()),
@@ -61,7 +61,7 @@ impl<A: Allocator> Value<A> {
     }
 }
 
-/// A command that is still about when its desk is given up is let go.
+/// A command that is still there when its desk is given up is let go.
 impl<A: Allocator> Drop for Value<A> {
     fn drop(self) {
         match self {
@@ -82,7 +82,7 @@ impl<A: Allocator> Leftover for Value<A> {
     }
 }
 
-/// Takes a command away, where it is about and has come so far.
+/// Takes a command away, where it is there and has come this far.
 fn taken<A: Allocator>(
     values: &mut Vec<Value<A>>,
     what: What,
@@ -103,17 +103,17 @@ fn taken<A: Allocator>(
     }
 }
 
-/// Takes a draft away, where it is about.
+/// Takes a draft away, where it is there.
 pub fn draft_of<A: Allocator>(values: &mut Vec<Value<A>>, q: u16, cid: u16) -> Option<Draft<A>> {
     taken(values, What::Draft, q, cid)?.into_draft()
 }
 
-/// Takes a ticket away, where it is about.
+/// Takes a ticket away, where it is there.
 pub fn ticket_of<A: Allocator>(values: &mut Vec<Value<A>>, q: u16, cid: u16) -> Option<Ticket> {
     taken(values, What::Ticket, q, cid)?.into_ticket()
 }
 
-/// Takes a finished command away, where it is about.
+/// Takes a finished command away, where it is there.
 pub fn finished_of<A: Allocator>(
     values: &mut Vec<Value<A>>,
     q: u16,

@@ -1,4 +1,4 @@
-//! A script through a book, or behind its lock: as its transcript says, also where a growth is refused, from the opening of the book to its end.
+//! A script through a book, or under its lock: as its transcript says, also where a growth is refused, from the opening of the book to its end.
 
 ghost use Rattle.std.specs.Prelude.{◌≡◌};
 ghost use Rattle.step_core.specs.Opening.{opening_of};
@@ -10,13 +10,13 @@ use crate::scripts::standing::{DeskIn, Heap, Stands};
 use crate::scripts::visit::visit;
 use driver_book::{BlankBook, Book, CloseFault, Full, FullLogBrand, LogBrand};
 use driver_threads::Shared;
-use std::alloc::{Allocator, Global};
+use std::alloc::{AllocError, Allocator, Global};
 use std::marker::Brand;
 use std::sync::Wait;
 use step_core::{Config, Image, OpenRefusal};
 use test_support::Refusal;
 
-/// Opens a book, once more where memory was refused.
+/// Opens a book, again where memory was refused.
 pub fn opened<L: FullLogBrand, A: Allocator + Copy>(
     heap: A,
     config: Config,
@@ -42,6 +42,14 @@ pub fn opened<L: FullLogBrand, A: Allocator + Copy>(
     }
 }
 
+/// Makes a seat at a desk, with no growth refused.
+pub fn seated<'h, L: FullLogBrand, R: Wait>(desk: &mut DeskIn<'h, L, R>) -> Result<(), Wrong> {
+    match desk.sit() {
+        Ok(_) => Ok(()),
+        Err(AllocError) => Err(Wrong::Memory),
+    }
+}
+
 /// Closes the book of a desk: how many submissions there were, or why it is not closed.
 fn submissions<'h, L: FullLogBrand, R: Wait>(
     desk: &mut DeskIn<'h, L, R>,
@@ -53,7 +61,7 @@ fn submissions<'h, L: FullLogBrand, R: Wait>(
 }
 
 /// Plays a script at a desk with one of the growths to come refused, and closes the book. Where closing wants memory nothing has changed, and the
-/// book is closed once more.
+/// book is closed again.
 fn play_at<'h, L: FullLogBrand, R: Eprint + Wait>(
     rt: &R,
     desk: &mut DeskIn<'h, L, R>,
@@ -61,7 +69,7 @@ fn play_at<'h, L: FullLogBrand, R: Eprint + Wait>(
     left: u64,
 ) -> Result<End, Wrong> {
     let (alloc, heap) = (desk.alloc, desk.heap);
-    let _seated = desk.sit();
+    seated(desk)?;
     let mut end = play_refused(rt, alloc, desk, run, left)?;
     heap.refuse(Refusal::Nth(end.left));
     let mut closes = submissions(desk);
@@ -118,7 +126,7 @@ fn play_in<'h, L: LogBrand, R: Eprint + Wait>(
     Ok(end)
 }
 
-/// Plays a script through a new book, or behind its lock, in a heap with one growth refused.
+/// Plays a script through a new book, or under its lock, in a heap with one growth refused.
 pub fn through_book<'h, R: Eprint + Wait>(
     rt: &'h R,
     alloc: Global,

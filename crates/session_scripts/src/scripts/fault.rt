@@ -17,7 +17,7 @@ pub enum Way {
     WithoutMemory,
     /// Through a book, with a growth refused, from its opening to its end.
     Book,
-    /// Behind a lock.
+    /// Under a lock.
     Lock,
     /// At two books: a draft of one visits the other, with a growth of the steps refused.
     Visit,
@@ -65,19 +65,19 @@ impl Display for Fault {
 /// Why a script does not play as its transcript says, or a run does not leave what it must.
 #[derive(Clone, Copy)]
 pub enum Wrong {
-    /// The file is no transcript.
+    /// The file is not a transcript.
     Transcript(TranscriptFault),
     /// No bench was opened.
     Opening(OpeningFault),
     /// No book was opened.
     NoBook(OpenRefusal),
-    /// Something else is printed than stands in this line; that was told.
+    /// Something other than what is in this line is printed; that was told.
     Line(u32),
     /// A run of threads did not come to its end.
     Threads(RunFault),
-    /// The file is not there, or is no text.
+    /// The file is not there, or is not text.
     Unreadable,
-    /// Memory is wanting that is not refused on purpose.
+    /// Memory is missing that is not refused on purpose.
     Memory,
     /// A step that wanted memory changed something.
     Changed,

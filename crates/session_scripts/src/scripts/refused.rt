@@ -23,7 +23,7 @@ pub struct Run<'t> {
 /// What a script leaves.
 #[derive(Drop)]
 pub struct End {
-    /// How what made its steps stands then.
+    /// How the maker of its steps stands then.
     pub standing: Standing,
     /// How many growths are left to the one that is refused; 0 where it was refused.
     pub left: u64,
@@ -36,7 +36,7 @@ pub struct End {
 }
 
 impl End {
-    /// What is wrong with it, where it is known what a script must leave. A step that was made once more counts its growths twice.
+    /// What is wrong with it, where it is known what a script must leave. A step that was made again counts its growths twice.
     pub fn wrong(&self, wanted: Option<&End>) -> Option<Wrong> {
         let wanted = wanted?;
         if self.standing != wanted.standing {
@@ -49,7 +49,7 @@ impl End {
     }
 }
 
-/// Plays a script with one of the growths to come refused, or where it is played without memory each growth of the steps that take none.
+/// Plays a script with one of the growths to come refused, or, where it is played without memory, each growth of the steps that take none.
 pub fn play_refused<M: Stands, R: Eprint>(
     rt: &R,
     alloc: Global,
@@ -90,7 +90,8 @@ pub fn play_refused<M: Stands, R: Eprint>(
     match found {
         Ok(None) => {}
         Ok(Some(difference)) => {
-            let _told = eprintln!(rt; "{difference}");
+            // Where standard error is closed, the line alone tells.
+            let _ = eprintln!(rt; "{difference}");
             return Err(Wrong::Line(difference.number));
         }
         Err(AllocError) => return Err(Wrong::Memory),
@@ -107,21 +108,21 @@ pub fn play_refused<M: Stands, R: Eprint>(
     }
 }
 
-/// Makes steps while growths are refused. A step that wants memory is made once more.
+/// Makes steps while growths are refused. A step that wants memory is made again.
 struct Steps<'m, M: Stands> {
-    /// Where what is noted down stands.
+    /// Where what is noted down is kept.
     alloc: Global,
     /// What makes them.
     maker: &'m mut M,
-    /// Whether each growth is refused of the steps that take no memory.
+    /// Whether each growth of the steps that take no memory is refused.
     takes_all: bool,
     /// Which of the growths to come is refused, counted from 1. At 0 none is.
     left: u64,
     /// How many growths each step has where none is refused, as far as that is known.
     known: &'m [u64],
-    /// How many growths each step had that was made.
+    /// How many growths each step that was made had.
     growths: Vec<u64>,
-    /// How many steps were made of which each growth was refused.
+    /// How many steps were made with each of their growths refused.
     without_memory: u64,
     /// What a step did that it must not, if one did.
     wrong: Option<Wrong>,
@@ -161,7 +162,7 @@ impl<'m, M: Stands> Steps<'m, M> {
         Ok(answer)
     }
 
-    /// Makes a step of which a growth may be refused. Where it wants memory it is seen whether anything has changed, and it is made once more.
+    /// Makes a step of which a growth may be refused. Where it wants memory, it is checked whether anything has changed, and it is made again.
     fn make_twice(&mut self, step: &Step) -> Result<Reply, AllocError> {
         let before = self.maker.standing(self.alloc)?;
         let answer = self.make(step)?;
@@ -182,7 +183,7 @@ impl<'m, M: Stands> StepMaker for Steps<'m, M> {
             Some(growths) => self.left > 0 && self.left <= *growths,
             None => self.left > 0,
         };
-        // how it stands is asked for where it matters alone, since that takes long
+        // how it stands is asked only where it matters, since that takes long
         let answer = if is_next {
             self.make_twice(step)?
         } else {

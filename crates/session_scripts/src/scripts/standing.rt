@@ -21,7 +21,7 @@ pub trait Stands: StepMaker {
     ///
     /// # Errors
     ///
-    /// Where memory is refused for what stands around the step.
+    /// Where memory is refused for what is around the step.
     fn step_without(&mut self, refusal: Refusal, step: &Step) -> Result<(Reply, Tally), AllocError>;
 
     /// How it stands.
@@ -41,9 +41,9 @@ pub struct Standing {
     pub counts: Counts,
     /// Whether something was forged on a bench.
     is_forged: bool,
-    /// How many entries the log of a book has, where it is seen: behind a lock it is as the book ends.
+    /// How many entries the log of a book has, where it is seen: under a lock it is as the book ends.
     pub entries: Option<usize>,
-    /// Once a book is closed how many submissions there were, or why it is not closed.
+    /// Once a book is closed, how many submissions there were, or why it is not closed.
     pub closes: Option<Result<u64, CloseFault>>,
     /// The receipts of the seat.
     pub receipts: Vec<Receipt>,
@@ -75,7 +75,7 @@ impl Standing {
         })
     }
 
-    /// Puts down the bytes of the pages that commands have, in the order of the pages, and how many drafts are built.
+    /// Records the bytes of the pages that commands have, in the order of the pages, and how many drafts are built.
     fn put_values<A: Allocator>(&mut self, values: &[Value<A>]) -> Result<(), AllocError> {
         for p in 0..self.owners.len() {
             for value in values {

@@ -4,7 +4,7 @@ ghost use Rattle.std.specs.Prelude.{◌≡◌};
 ghost use Rattle.step_core.specs.Opening.{opening_of};
 
 use crate::desk::{Access, Desk, Value};
-use crate::scripts::book::opened;
+use crate::scripts::book::{opened, seated};
 use crate::scripts::fault::Wrong;
 use crate::scripts::refused::{End, Run, play_refused};
 use crate::scripts::standing::{DeskIn, Heap, Stands};
@@ -74,9 +74,11 @@ fn play_away<'h, M: LogBrand, R: Eprint + Wait>(
 {
     let book = opened::<Full<M>, &'h Heap>(heap, config, image, blank)?;
     let mut away = Desk::new(rt, alloc, heap, Access::Book(book));
-    let _seated = away.sit();
     mem::swap(&mut away.values, values);
-    let played = play_text(rt, alloc, &mut away, run, STRANGER, left);
+    let played = match seated(&mut away) {
+        Ok(()) => play_text(rt, alloc, &mut away, run, STRANGER, left),
+        Err(wrong) => Err(wrong),
+    };
     mem::swap(&mut away.values, values);
     away.end();
     played
@@ -91,7 +93,7 @@ pub fn visit<'h, L: FullLogBrand, R: Eprint + Wait>(
 ) -> Result<End, Wrong> {
     let (alloc, heap) = (home.alloc, home.heap);
     let Options { config, blocks } = run.transcript.options();
-    let _seated = home.sit();
+    seated(home)?;
     let left = play_refused(rt, alloc, home, run, left)?.left;
     let Ok(image) = Image::zeroed(heap, blocks) else {
         return Err(Wrong::Memory);

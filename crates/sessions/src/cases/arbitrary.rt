@@ -9,7 +9,7 @@ use views::explain::{CaseReader, Layout, Shown, Stop, show};
 /// How many lines are read.
 const LINES: u32 = 100_000;
 
-/// Words of which lines are made: those that begin a line, numbers, bytes, and some that stand nowhere.
+/// Words of which lines are made: those that begin a line, numbers, bytes, and some that occur nowhere.
 const WORDS: [&[u8]; 28] = [
     b"page",
     b"page",

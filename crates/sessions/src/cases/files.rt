@@ -1,4 +1,4 @@
-//! Cases that stand in files.
+//! Cases in files.
 
 use entry_codec::Status;
 use std::alloc::{AllocError, AllocGlobal};

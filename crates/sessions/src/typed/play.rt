@@ -11,7 +11,7 @@ use std::{fs, io};
 
 /// What begins a line that is a command.
 const COMMAND: &str = "$ ";
-/// What asks for the exit status, behind a command.
+/// What asks for the exit status, after a command.
 const STATUS: &str = "; echo $?";
 /// What begins a line that is typed while a command runs.
 const TYPED: &str = "nvmesgl> ";
@@ -47,15 +47,11 @@ fn play<R: AllocGlobal + Clock + Eprint + Files + Print + Sync + Threads + Wait>
     let Some(command) = command else {
         return Ok(());
     };
-    match command.strip_suffix(STATUS) {
-        Some(command) => {
-            let status = status_of(rt, command, typed)?;
-            println!(rt; "{status}")
-        }
-        None => {
-            let _status = status_of(rt, command, typed)?;
-            Ok(())
-        }
+    let bare = command.strip_suffix(STATUS);
+    let status = status_of(rt, bare.unwrap_or(command), typed)?;
+    match bare {
+        Some(_) => println!(rt; "{status}"),
+        None => Ok(()),
     }
 }
 
@@ -106,7 +102,7 @@ fn run<R: AllocGlobal + Clock + Eprint + Files + Print + Sync + Threads + Wait, 
         return Err(io::Error::from(io::ErrorKind::InvalidInput));
     }
     let mut writer = io::writer(rt);
-    // What a load says while it runs is another each time: standard error is no terminal here.
+    // What a load says while it runs is different each time: standard error is not a terminal here.
     let terminals = Terminals {
         input: is_terminal,
         ..Terminals::NONE

@@ -22,7 +22,7 @@ pub(crate) fn printed(alloc: Global, command: &str) -> io::Result<Vec<u8>> {
     Ok(out)
 }
 
-/// Puts `"TEXT"` behind the others once, or `"TEXT" x TIMES` so many times.
+/// Adds `"TEXT"` after the others once, or `"TEXT" x TIMES` that many times.
 fn put_part(out: &mut Vec<u8>, alloc: Global, part: &str) -> io::Result<()> {
     let (quoted, times) = part.split_once(" x ").unwrap_or((part, "1"));
     let text = quoted.strip_prefix('"').unwrap_or("");
@@ -37,7 +37,7 @@ fn put_part(out: &mut Vec<u8>, alloc: Global, part: &str) -> io::Result<()> {
     Ok(())
 }
 
-/// Puts the bytes of a text behind the others, with those that its escapes stand for.
+/// Adds the bytes of a text after the others, with those that its escapes stand for.
 fn put_text(out: &mut Vec<u8>, text: &str) -> io::Result<()> {
     let mut parts = text.split('\\');
     if let Some(first) = parts.next() {

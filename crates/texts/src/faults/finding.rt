@@ -30,9 +30,9 @@ pub enum Wanted {
     Slot(Slot),
     /// A piece.
     Piece,
-    /// Nothing more, behind what this verb takes.
+    /// Nothing more, after what this verb takes.
     Nothing(Verb),
-    /// Nothing more, behind the request of a job.
+    /// Nothing more, after the request of a job.
     NothingOfJob,
 }
 
@@ -45,11 +45,11 @@ pub struct Found {
     pub start: usize,
     /// Where it ends. A word that is missing has no bytes.
     pub end: usize,
-    /// What is wanted there.
+    /// What is expected there.
     pub wanted: Wanted,
 }
 
-/// Why no more of a line is looked at.
+/// Why no more of a line is read.
 #[derive(Clone, Copy)]
 pub(crate) enum FindError {
     /// It is at fault.
@@ -136,7 +136,7 @@ fn at_fault(fault: LineFault, place: Place, wanted: Wanted) -> Found
     }
 }
 
-/// Looks at the word that follows a place, and answers where it ends.
+/// Looks at the word that follows a position, and answers where it ends.
 fn word_after(alloc: Global, line: &[u8], at: usize, slot: Slot) -> Result<usize, FindError>
     requires { at ≤ length line.now }
     ensures next { IfOk result (λ next. next ≤ length line.now) }
@@ -159,7 +159,7 @@ fn word_after(alloc: Global, line: &[u8], at: usize, slot: Slot) -> Result<usize
     }
 }
 
-/// Looks at the words that follow a place, and answers where the last one ends.
+/// Looks at the words that follow a position, and answers where the last one ends.
 fn words_after(alloc: Global, line: &[u8], at: usize, slots: &[Slot]) -> Result<usize, FindError>
     requires { at ≤ length line.now }
     ensures next { IfOk result (λ next. next ≤ length line.now) }
@@ -172,7 +172,7 @@ fn words_after(alloc: Global, line: &[u8], at: usize, slots: &[Slot]) -> Result<
     Ok(at)
 }
 
-/// Looks at the pieces that follow a place, and answers where the last one ends.
+/// Looks at the pieces that follow a position, and answers where the last one ends.
 fn pieces_after(line: &[u8], at: usize) -> Result<usize, Found>
     requires { at ≤ length line.now }
     ensures next { IfOk result (λ next. next ≤ length line.now) }
@@ -195,7 +195,7 @@ fn pieces_after(line: &[u8], at: usize) -> Result<usize, Found>
     Ok(at)
 }
 
-/// Where a word ends, if it is the one that follows a place.
+/// Where a word ends, if it is the one that follows a position.
 fn named_after(line: &[u8], at: usize, name: &str) -> Option<usize>
     requires { at ≤ length line.now }
     ensures { IfSome result (λ next. next ≤ length line.now) }
@@ -207,7 +207,7 @@ fn named_after(line: &[u8], at: usize, name: &str) -> Option<usize>
     Some(place.end)
 }
 
-/// Looks at the word that may follow a place behind its name, and answers where it ends.
+/// Looks at the word that may follow a position after its name, and answers where it ends.
 fn option_after(
     alloc: Global,
     line: &[u8],
@@ -225,7 +225,7 @@ fn option_after(
     }
 }
 
-/// Where a flag ends, if it follows a place; else that place.
+/// Where a flag ends, if it follows a position; else that position.
 fn flag_after(line: &[u8], at: usize, name: &str) -> usize
     requires { at ≤ length line.now }
     ensures { result ≤ length line.now }
@@ -236,7 +236,7 @@ fn flag_after(line: &[u8], at: usize, name: &str) -> usize
     }
 }
 
-/// Sees that no word follows a place.
+/// Checks that no word follows a position.
 fn end_after(line: &[u8], at: usize, wanted: Wanted) -> Result<(), Found>
     requires { at ≤ length line.now }
     ensures { IfErr result (IsIn (length line.now)) }
@@ -277,7 +277,7 @@ fn step_after(alloc: Global, line: &[u8], at: usize, verb: Verb) -> Result<(), F
     Ok(end_after(line, at, wanted)?)
 }
 
-/// Whether the third word that follows a place is a kind of command whose job has bytes.
+/// Whether the third word that follows a position is a kind of command whose job has bytes.
 fn has_bytes(line: &[u8], at: usize) -> bool
     requires { at ≤ length line.now }
 {
@@ -306,14 +306,14 @@ fn job_after(alloc: Global, line: &[u8], at: usize, submitters: u16) -> Result<(
     request_after(alloc, line, next, Wanted::NothingOfJob)
 }
 
-/// Where the first byte that is not ASCII stands.
+/// Where the first byte that is not ASCII is.
 fn first_high(line: &[u8]) -> Option<usize>
     ensures { IfSome result (λ n. n < length line.now) }
 {
     line.iter().position(|byte| *byte >= 128)
 }
 
-/// Sees that a line is short enough, and has bytes of ASCII alone.
+/// Checks that a line is short enough, and has bytes of ASCII alone.
 fn whole_line(line: &[u8]) -> Result<(), Found>
     ensures { IfErr result (IsIn (length line.now)) }
 {
@@ -356,7 +356,7 @@ fn look_over_line(alloc: Global, grammar: Grammar, line: &[u8]) -> Result<(), Fi
     }
 }
 
-/// What is at fault in a line of a script, and where. Nothing is where the line has no fault.
+/// What is at fault in a line of a script, and where. Nothing where the line has no fault.
 ///
 /// # Errors
 ///

@@ -11,7 +11,7 @@ use std::alloc::{AllocError, Global};
 pub enum Grammar {
     /// The steps of `nvmesgl steps`.
     Steps,
-    /// The jobs of `nvmesgl threads`, for so many submitters.
+    /// The jobs of `nvmesgl threads`, for this many submitters.
     Jobs(u16),
 }
 
@@ -40,7 +40,7 @@ pub enum Slot {
     Bytes,
     /// The 16 bytes of a completion entry.
     EntryBytes,
-    /// One of so many submitters.
+    /// One of this many submitters.
     Submitter(u16),
 }
 
@@ -70,7 +70,7 @@ pub(crate) fn slots_of(verb: Verb) -> &'static [Slot]
     }
 }
 
-/// Whether pieces follow behind these words.
+/// Whether pieces follow these words.
 pub(crate) fn has_pieces(verb: Verb) -> bool
     ensures { result ≡ pieces_follow verb }
 {

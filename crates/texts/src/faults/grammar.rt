@@ -9,12 +9,12 @@ use entry_codec::status_names::NAMES;
 use script_cli::{CommandVerb, QueueVerb, VERBS, Verb};
 use std::alloc::{AllocError, Global};
 
-/// What stands before the verbs.
+/// What comes before the verbs.
 const BEGINNING: &str = "A script of `nvmesgl steps` has one step on each line:
 
 ";
 
-/// What stands behind them.
+/// What comes after them.
 const END: &str = "
 A script of `nvmesgl threads` has one job on each line:
 
@@ -48,7 +48,7 @@ A status, as replies have it:
 
 ";
 
-/// What stands last.
+/// What comes last.
 const LAST: &str = "
 docs/SCRIPT.md in the repository has all of this in full.
 ";

@@ -13,7 +13,7 @@ use std::fmt;
 /// The most bytes of a line that are shown.
 const WIDTH: usize = 76;
 
-/// How many of them stand before the word, where the line is longer.
+/// How many of them come before the word, where the line is longer.
 const BEFORE: usize = 30;
 
 /// The most bytes of a word that are quoted.
@@ -48,7 +48,7 @@ impl fmt::Display for Shown<'_> {
     }
 }
 
-/// Puts a character so often.
+/// Puts a character this often.
 fn put_often(out: &mut String, character: char, times: usize) -> Result<(), AllocError>
     requires { character < 128 }
     ensures { OnOk result (string_bytes out.new ≡ string_bytes out.old ++ replicate times character) }
@@ -76,7 +76,7 @@ fn put_dots_if(out: &mut String, cut: bool) -> Result<(), AllocError>
     if cut { out.push_str("..") } else { Ok(()) }
 }
 
-/// Puts what is shown of a line from a byte on, with dots where something is left out.
+/// Puts what is shown of a line starting at a byte, with dots where something is left out.
 #[tactic(auto, unfolding(crate::specs::Layout::cut_text))]
 fn put_cut(out: &mut String, line: &[u8], from: usize) -> Result<(), AllocError>
     ensures { OnOk result (string_bytes out.new ≡ string_bytes out.old ++ cut_text line.now from) }
@@ -87,7 +87,7 @@ fn put_cut(out: &mut String, line: &[u8], from: usize) -> Result<(), AllocError>
     put_dots_if(out, rest.len() > WIDTH)
 }
 
-/// Puts a caret for each byte from `start` to `end` below a line that is shown from a byte on, and a line feed.
+/// Puts a caret for each byte from `start` to `end` below a line that is shown starting at a byte, and a line feed.
 #[tactic(auto, unfolding(crate::specs::Layout::carets_text))]
 fn put_carets(out: &mut String, from: usize, start: usize, end: usize) -> Result<(), AllocError>
     requires { from ≤ start - 30 }

@@ -27,7 +27,7 @@ fn lower_case(alloc: Global, word: &[u8]) -> Result<Option<String>, AllocError>
     Ok(Some(text))
 }
 
-/// Whether so many edits are few for a word of this length.
+/// Whether this many edits are few for a word of this length.
 fn are_few(edits: usize, len: usize) -> bool
     ensures { result ≡ spec_are_few edits len }
 {

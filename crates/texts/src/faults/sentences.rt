@@ -45,7 +45,7 @@ fn put_meant(
     }
 }
 
-/// Puts what a first word is, where a step is wanted.
+/// Puts what a first word is, where a step is expected.
 fn put_no_verb(out: &mut String, alloc: Global, word: &[u8]) -> Result<(), AllocError> {
     if word == JOB {
         return out.push_str("'job' begins a line of `nvmesgl threads`, and is no step.");
@@ -60,7 +60,7 @@ fn put_no_verb(out: &mut String, alloc: Global, word: &[u8]) -> Result<(), Alloc
     put_meant(out, alloc, word, names.as_slice(), otherwise)
 }
 
-/// Puts what a first word is, where a job is wanted.
+/// Puts what a first word is, where a job is expected.
 fn put_no_job(out: &mut String, alloc: Global, word: &[u8]) -> Result<(), AllocError> {
     let shown = Shown(word);
     if Verb::named(word).is_some() {

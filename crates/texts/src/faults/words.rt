@@ -1,22 +1,22 @@
-//! Where the words of a line stand.
+//! Where the words of a line are.
 
 ghost use Rattle.std.specs.Prelude.{◌≤◌, IfSome, length};
 
-/// Where a word stands in its line, in bytes from the left: its first one, and the one behind its last.
+/// Where a word is in its line, in bytes from the left: its first one, and the one after its last.
 #[derive(Clone, Copy, Debug, PartialEq, Eq)]
 pub struct Place {
-    /// Where its first byte stands.
+    /// Where its first byte is.
     pub start: usize,
     /// Where it ends; a word that is missing has no bytes.
     pub end: usize,
 }
 
-/// Whether a byte stands between words.
+/// Whether a byte separates words.
 fn is_blank(byte: u8) -> bool {
     byte == b' ' || byte == b'\t'
 }
 
-/// Where the next blank, or the next byte that is none, stands; the length of the line if there is none.
+/// Where the next blank, or the next byte that is none, is; the length of the line if there is none.
 fn next_where(line: &[u8], from: usize, blank: bool) -> usize
     requires { from ≤ length line.now }
     ensures least { from ≤ result }
@@ -31,7 +31,7 @@ fn next_where(line: &[u8], from: usize, blank: bool) -> usize
     }
 }
 
-/// The first word from a place on.
+/// The first word at or after a position.
 pub fn word_from(line: &[u8], from: usize) -> Option<Place>
     requires { from ≤ length line.now }
     ensures start { IfSome result (λ place. place.start ≤ place.end) }

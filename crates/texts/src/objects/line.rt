@@ -1,4 +1,4 @@
-//! An object on a line, and what stands in it as hexadecimal digits.
+//! An object on a line, and what is in it as hexadecimal digits.
 
 ghost use Rattle.std.specs.Prelude.{◌≡◌, ◌++◌, IfOk, OnOk, string_bytes};
 ghost use Rattle.texts.specs.Objects.{PutsObject};

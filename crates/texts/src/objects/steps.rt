@@ -15,7 +15,7 @@ use serde::{Described, Serialize, Serializer};
 use std::alloc::{AllocError, Global};
 use step_core::{Reaped, Refusal, Reply, Touched};
 
-/// Puts the members of a status, of which this is the text: that, and its name if it has one.
+/// Puts the members of a status, which has this text: that, and its name if it has one.
 fn put_status<S: Serializer>(out: &mut S, status: Status, text: &str) -> Result<(), S::Error>
     ensures { OnOk result (SendsNamed (λ name. members_events (status_members text.now name no_members)) (S.written out.old) (S.written out.new)) }
 {
@@ -39,7 +39,7 @@ fn put_touched<S: Serializer>(out: &mut S, touched: &Touched) -> Result<(), S::E
     out.end_seq()
 }
 
-/// Puts the members of what a walk found, of whose status this is the text.
+/// Puts the members of what a walk found, whose status has this text.
 fn put_walked<S: Serializer>(out: &mut S, state: WalkState, text: &str) -> Result<(), S::Error>
     ensures { OnOk result (SendsNamed (λ name. members_events (walked_members text.now name state no_members)) (S.written out.old) (S.written out.new)) }
 {
@@ -53,7 +53,7 @@ fn put_walked<S: Serializer>(out: &mut S, state: WalkState, text: &str) -> Resul
     }
 }
 
-/// Puts the members of what a reap found, of whose status this is the text.
+/// Puts the members of what a reap found, whose status has this text.
 fn put_reaped<S: Serializer>(out: &mut S, found: &Reaped, text: &str) -> Result<(), S::Error>
     ensures { OnOk result (SendsNamed (λ name. members_events (reaped_members text.now name found.now)) (S.written out.old) (S.written out.new)) }
 {
@@ -117,7 +117,7 @@ fn put_reserved<S: Serializer>(
     put_number(out, "chain", u64::from(chain))
 }
 
-/// Puts the members of an answer, of whose status, or of whose bytes, this is the text.
+/// Puts the members of an answer whose status, or whose bytes, have this text.
 fn put_answer<S: Serializer>(out: &mut S, reply: &Reply, text: &str) -> Result<(), S::Error>
     ensures { OnOk result (SendsNamed (λ name. members_events (answer_members text.now name reply.now)) (S.written out.old) (S.written out.new)) }
 {

@@ -8,7 +8,7 @@ ghost use Rattle.texts.specs.Slots.{byte_text, place_text, row_bytes_text, rows_
 use std::alloc::AllocError;
 use world_bench::Bench;
 
-/// How many bytes stand in a line.
+/// How many bytes are in a line.
 const WIDTH: usize = 16;
 
 /// The bytes of a page.
@@ -34,7 +34,7 @@ pub(crate) fn sixty_four_at(bench: &mut Bench, addr: u64) -> Option<[u8; 64]>
     Some(bytes)
 }
 
-/// Puts a byte, behind a space.
+/// Puts a byte, after a space.
 pub(crate) fn put_byte(out: &mut String, byte: u8) -> Result<(), AllocError>
     ensures { OnOk result (string_bytes out.new ≡ string_bytes out.old ++ byte_text byte) }
 {

@@ -55,7 +55,7 @@ fn put_asks(out: &mut String, name: &str, entry: &SubEntry) -> Result<(), AllocE
     write!(out, "h {name}, FUSE {fuse}, PSDT {psdt}")
 }
 
-/// Puts the fields of an entry that stand before its data pointer, with a name for its opcode, a line.
+/// Puts the fields of an entry that come before its data pointer, with a name for its opcode, a line.
 ///
 /// # Errors
 ///
@@ -74,7 +74,7 @@ pub fn put_entry_head(out: &mut String, name: &str, entry: &SubEntry) -> Result<
     write!(out, ", CID {cid}, NSID {nsid}, MPTR {mptr:X}h\n")
 }
 
-/// Puts the first three words behind the data pointer of an entry.
+/// Puts the first three words after the data pointer of an entry.
 #[tactic(auto, unfolding(crate::specs::Fields::first_words_text))]
 fn put_first_words(out: &mut String, entry: &SubEntry) -> Result<(), AllocError>
     ensures { OnOk result (string_bytes out.new ≡ string_bytes out.old ++ first_words_text entry.now) }
@@ -91,7 +91,7 @@ fn put_first_words(out: &mut String, entry: &SubEntry) -> Result<(), AllocError>
     )
 }
 
-/// Puts the words of an entry that stand behind its data pointer, a line.
+/// Puts the words of an entry that follow its data pointer, a line.
 ///
 /// # Errors
 ///

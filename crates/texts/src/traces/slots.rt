@@ -1,4 +1,4 @@
-//! Slots of rings: where they lie, and what stands in them.
+//! Slots of rings: where they lie, and what is in them.
 
 ghost use Rattle.std.specs.Prelude.{◌≡◌, ◌<◌, ◌++◌, IfOk, IfSome, OnOk, MatchOption, string_bytes};
 ghost use Rattle.page_memory.specs.declared.page.Half.TheVariants as of_half;
@@ -58,7 +58,7 @@ fn put_slot(
     put_bytes(out, bytes)
 }
 
-/// Puts the slot of a submission ring with the bytes that stand there, and answers them.
+/// Puts the slot of a submission ring with the bytes that are there, and answers them.
 pub(crate) fn put_submission_slot(
     out: &mut String,
     bench: &mut Bench,
@@ -78,7 +78,7 @@ pub(crate) fn put_submission_slot(
     Ok(Some(bytes))
 }
 
-/// Puts the slot of a completion ring with the bytes that stand there, and answers them.
+/// Puts the slot of a completion ring with the bytes that are there, and answers them.
 pub(crate) fn put_completion_slot(
     out: &mut String,
     bench: &mut Bench,

@@ -9,12 +9,12 @@ use std::alloc::AllocError;
 use step_core::{Half, Owner, PageNo, Reaped, Reply, Rings, Role, Step};
 use world_bench::Bench;
 
-/// What of a step its trace needs, while the step itself is spent.
+/// What its trace needs of a step, while the step itself is spent.
 #[derive(Clone, Copy, Debug, PartialEq, Eq)]
 pub enum Traced {
     /// An entry is put into a submission queue.
     Entry(u16),
-    /// A tail doorbell is rung.
+    /// A tail doorbell is written.
     Ring(u16),
     /// The controller fetches an entry.
     Fetch(u16),
@@ -27,7 +27,7 @@ pub enum Traced {
 }
 
 impl Traced {
-    /// What of a step its trace needs.
+    /// What its trace needs of a step.
     pub fn of(step: &Step) -> Traced
         ensures { result ≡ traced_of step.now }
     {
@@ -156,7 +156,7 @@ fn was_done(reply: &Reply) -> bool {
 }
 
 /// Puts what a step moved, from what the bench shows after it: the entry that was put into a queue, with the segments of its list; the completion that
-/// was posted or taken; the value that was written to a doorbell; the pages that the controller touched. Of a refused step there is
+/// was posted or taken; the value that was written to a doorbell; the pages that the controller touched. For a refused step there is
 /// nothing. It looks at each page, to find those of a queue.
 ///
 /// # Errors

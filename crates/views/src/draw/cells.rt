@@ -4,7 +4,7 @@ use page_ledger::{Owner, Role};
 use page_memory::{Half, PageNo};
 use std::alloc::AllocError;
 
-/// The class of a page of such a half of a queue, and the half's name.
+/// The class of a page of this half of a queue, and the half's name.
 fn half_words(half: Half) -> (&'static str, &'static str) {
     match half {
         Half::Submission => ("s", "submission"),
@@ -12,7 +12,7 @@ fn half_words(half: Half) -> (&'static str, &'static str) {
     }
 }
 
-/// The class of a page that a command has for such a role, and the role's name.
+/// The class of a page that a command has for this role, and the role's name.
 fn role_words(role: Role) -> (&'static str, &'static str) {
     match role {
         Role::Data => ("d", "data"),
@@ -25,7 +25,7 @@ fn put_class(out: &mut String, class: &str, marks: &str) -> Result<(), AllocErro
     write!(out, "<b class=\"{class}{marks}\"")
 }
 
-/// Puts the classes of a page's cell, its colour where it has one, and what it says as the pointer stands over it.
+/// Puts the classes of a page's cell, its colour where it has one, and what it says when the pointer is over it.
 fn put_owner(out: &mut String, page: usize, owner: Owner, marks: &str) -> Result<(), AllocError> {
     match owner {
         Owner::Free => {

@@ -67,7 +67,7 @@ struct Command {
     data: String,
 }
 
-/// Puts the number of a page behind others.
+/// Puts the number of a page after others.
 fn put_page(numbers: &mut String, page: usize) -> Result<(), AllocError> {
     if !numbers.is_empty() {
         numbers.push_str(" ")?;

@@ -19,7 +19,7 @@ use world_bench::Bench;
 /// The most pages that a picture has; of a larger pool it has the first ones.
 pub const MOST_CELLS: u32 = 1_024;
 
-/// The most pictures of a script, behind that of the opening. The steps behind them are not made.
+/// The most pictures of a script, after that of the opening. The steps after them are not made.
 pub const MOST_PICTURES: usize = 1_000;
 
 /// The owners of the pages that are drawn.
@@ -30,7 +30,7 @@ fn owners_of(alloc: Global, bench: &Bench) -> Result<Vec<Owner>, AllocError>
     first_owners(alloc, bench, bench.pages().min(MOST_CELLS))
 }
 
-/// A text, of which lines are taken in rising order.
+/// A text whose lines are taken in rising order.
 #[derive(Drop)]
 struct Lines<'a> {
     rest: &'a [u8],
@@ -162,12 +162,12 @@ fn draw_all<W: Write>(
     flush(writer)
 }
 
-/// Plays a script over a world that it opens, and writes a page of HTML with a picture behind each of its steps: the command `draw`.
+/// Plays a script over a world that it opens, and writes a page of HTML with a picture after each of its steps: the command `draw`.
 ///
 /// # Errors
 ///
 /// The first fault of the script, and then one of the opening; nothing is written then. `Memory` where memory is refused, and not inside a
-/// step, and `OutputFailed` where a write or the flush fails; what was written by then is the front of the page.
+/// step, and `OutputFailed` where a write or the flush fails; what was written by then is a prefix of the page.
 pub fn draw_steps<W: Write>(
     alloc: Global,
     config: Config,

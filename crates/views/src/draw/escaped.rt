@@ -2,7 +2,7 @@
 
 use std::alloc::AllocError;
 
-/// Puts a text as a page shows it: what begins a tag or an entity stands as an entity.
+/// Puts a text as a page shows it: what begins a tag or an entity is written as an entity.
 pub(crate) fn put_escaped(out: &mut String, text: &str) -> Result<(), AllocError> {
     for character in text.chars() {
         match character {

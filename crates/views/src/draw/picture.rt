@@ -1,4 +1,4 @@
-//! A picture: what a step was and answered, and what the world is behind it.
+//! A picture: what a step was and answered, and what the world is after it.
 
 use crate::draw::cells::put_cells;
 use crate::draw::commands::{Requests, put_commands};
@@ -11,7 +11,7 @@ use std::alloc::{AllocError, Global};
 use step_core::Reply;
 use world_bench::Bench;
 
-/// What stands over a picture.
+/// What is above a picture.
 #[derive(Clone, Copy)]
 pub(crate) struct Caption<'a> {
     /// The line of the script, from 1; 0 for the opening.
@@ -33,7 +33,7 @@ pub(crate) fn touched_by(reply: &Reply) -> &[PageNo] {
     }
 }
 
-/// Puts of which line a picture is.
+/// Puts which line a picture is of.
 fn put_title(out: &mut String, number: u32, line: &str) -> Result<(), AllocError> {
     if number == 0 {
         return out.push_str("as it opens");
@@ -43,7 +43,7 @@ fn put_title(out: &mut String, number: u32, line: &str) -> Result<(), AllocError
     out.push_str("</code>")
 }
 
-/// Puts what stands over a picture.
+/// Puts what is above a picture.
 fn put_caption(out: &mut String, caption: &Caption<'_>) -> Result<(), AllocError> {
     let number = caption.number;
     write!(out, "<section id=\"line{number}\">\n<h2>")?;

@@ -7,7 +7,7 @@ use world_bench::Bench;
 /// The most slots that a strip has; of longer rings the positions are told in words alone.
 const MOST_SLOTS: u16 = 64;
 
-/// Whether a slot lies from one position on and before another, around the end of the ring.
+/// Whether a slot lies at or after one position and before another, around the end of the ring.
 fn lies_between(slot: u16, from: u16, to: u16) -> bool {
     if from <= to {
         from <= slot && slot < to
@@ -16,7 +16,7 @@ fn lies_between(slot: u16, from: u16, to: u16) -> bool {
     }
 }
 
-/// A half of a queue: the slots from `from` on and before `to` hold what was posted and not taken; before `told` the other side was told of it.
+/// A half of a queue: the slots at and after `from` and before `to` hold what was posted and not taken; before `told` the other side was told of it.
 #[derive(Clone, Copy)]
 struct Strip {
     name: &'static str,
@@ -25,7 +25,7 @@ struct Strip {
     told: u16,
 }
 
-/// Puts the strip of a ring of so many slots.
+/// Puts the strip of a ring of this many slots.
 fn put_strip(out: &mut String, strip: &Strip, entries: u16) -> Result<(), AllocError> {
     if entries > MOST_SLOTS {
         return Ok(());
@@ -98,7 +98,7 @@ fn put_completion(out: &mut String, rings: &Rings, entries: u16) -> Result<(), A
     }
 }
 
-/// Puts a table of the queues of a bench, whose rings have so many slots.
+/// Puts a table of the queues of a bench, whose rings have this many slots.
 pub(crate) fn put_rings(out: &mut String, bench: &Bench, entries: u16) -> Result<(), AllocError> {
     out.push_str(
         "<table><tr><th>queue</th><th>submission ring</th><th>completion ring</th><th>outstanding</th></tr>\n",

@@ -1,4 +1,4 @@
-//! What stands around the pictures.
+//! What surrounds the pictures.
 
 /// The beginning of the page.
 pub(crate) const HEAD: &str = "<!DOCTYPE html>

@@ -44,8 +44,8 @@ fn answer_of(alloc: Global, case: Case, layout: Layout) -> Result<Answer, AllocE
     })
 }
 
-/// Reads a case from lines, and explains it. Files that lines name are relative to the folder of the path that the lines stand in, or, without a path, to the
-/// working folder.
+/// Reads a case from lines, and explains it. Files that lines name are relative to the folder of the path that the lines are in, or, without a path,
+/// to the working folder.
 ///
 /// # Errors
 ///

@@ -25,7 +25,7 @@ const BLOCKS: u64 = 64;
 /// The bytes of a page.
 const PAGE: u64 = 4_096;
 
-/// The most bytes that stand behind an address.
+/// The most bytes that follow an address.
 const MOST_BYTES: u64 = 1_048_576;
 
 /// What a controller is to be asked.
@@ -42,7 +42,7 @@ pub struct Case {
 /// What a line has bytes for.
 #[derive(Clone, Copy)]
 enum Target {
-    /// The pool, from an address on.
+    /// The pool, starting at an address.
     Memory(u64),
     /// The block that was given last.
     Block,
@@ -50,12 +50,12 @@ enum Target {
     Entry,
 }
 
-/// A line with bytes, which go on in the lines behind it.
+/// A line with bytes, which go on in the lines after it.
 #[derive(Drop)]
 struct Open {
     target: Target,
     dump: Dump,
-    /// The line's number, and where its first word stands.
+    /// The line's number, and where its first word is.
     number: u32,
     key: Place,
 }
@@ -68,7 +68,7 @@ struct Claim {
     number: u32,
 }
 
-/// The line that has bytes for one of so many places from a first one on.
+/// The line that has bytes for one of this many places starting at a first one.
 fn claimed(claims: &[Claim], first: u64, count: u64) -> Option<u32> {
     for claim in claims {
         let apart = if claim.first <= first {
@@ -136,7 +136,7 @@ impl CaseReader {
         })
     }
 
-    /// Puts another pool in place of that which no line has told of.
+    /// Replaces the pool that no line has told of.
     fn set_pool(&mut self, key: Place, memory: SparseMemory) -> Result<(), Stop> {
         if self.pool_told {
             return Err(Stop::At(key, Wrong::Late));
@@ -241,7 +241,7 @@ impl CaseReader {
         Ok(())
     }
 
-    /// Begins a line with bytes, so many at most.
+    /// Begins a line with bytes, this many at most.
     fn begin_bytes(&mut self, alloc: Global, target: Target, most: usize, number: u32, key: Place) {
         self.open = Some(Open {
             target,
@@ -251,7 +251,7 @@ impl CaseReader {
         });
     }
 
-    /// `page P BYTES`: the bytes of a page, and zeros behind them.
+    /// `page P BYTES`: the bytes of a page, and zeros after them.
     fn page(
         &mut self,
         alloc: Global,
@@ -280,7 +280,7 @@ impl CaseReader {
         Ok(())
     }
 
-    /// `at ADDRESS BYTES`: bytes from an address on.
+    /// `at ADDRESS BYTES`: bytes starting at an address.
     fn at(
         &mut self,
         alloc: Global,
@@ -307,7 +307,7 @@ impl CaseReader {
         Ok(())
     }
 
-    /// `block N BYTES`: the bytes of a block, and zeros behind them.
+    /// `block N BYTES`: the bytes of a block, and zeros after them.
     fn block(
         &mut self,
         alloc: Global,
@@ -374,7 +374,7 @@ impl CaseReader {
         Ok(())
     }
 
-    /// Puts bytes that stand in a line, the first of which is this one of their target.
+    /// Puts bytes that are in a line, the first of which is this one of their target.
     fn put(&mut self, target: Target, place: Place, from: usize, bytes: &[u8]) -> Result<(), Stop> {
         match target {
             Target::Memory(first) => {
@@ -453,7 +453,7 @@ impl CaseReader {
         }
     }
 
-    /// Reads what stands behind the first word of a line.
+    /// Reads what follows the first word of a line.
     fn keyed<R: AllocGlobal + Files>(
         &mut self,
         rt: &R,
@@ -563,7 +563,7 @@ fn size_of(line: &mut Line<'_>, least: u32, all: u64) -> Result<u64, Stop>
     }
 }
 
-/// Takes a number of bytes that is one of whole pages, and answers how many pages, so many at most.
+/// Takes a number of bytes that is one of whole pages, and answers how many pages, this many at most.
 fn pages_of(line: &mut Line<'_>, most: u64) -> Result<u64, Stop>
     ensures { IfOk result (λ n. n ≤ most) }
 {
@@ -579,8 +579,8 @@ fn pages_of(line: &mut Line<'_>, most: u64) -> Result<u64, Stop>
 ///
 /// # Errors
 ///
-/// `TooLong` before any line is looked at, where there are more than 1,048,576 bytes, and where there are more than 65,536 lines; else the first fault of the first line that has one; `NoEntry` where no line has an entry; and `Memory`
-/// where memory is refused.
+/// `TooLong` before any line is read, where there are more than 1,048,576 bytes, and where there are more than 65,536 lines; else the first fault of
+/// the first line that has one; `NoEntry` where no line has an entry; and `Memory` where memory is refused.
 pub(crate) fn read_case<R: AllocGlobal + Files>(
     rt: &R,
     folder: &str,

@@ -161,7 +161,7 @@ fn end_object(
 }
 
 /// Puts what [`crate::explain::text::put_explanation`] puts as JSON: an object for each descriptor that was taken, and one for the command's end. Numbers of 64 bits are hexadecimal texts;
-/// `at` is null for a descriptor that stands in the entry. An entry that breaks a rule for its fields has an object too.
+/// `at` is null for a descriptor that is in the entry. An entry that breaks a rule for its fields has an object too.
 ///
 /// # Errors
 ///

@@ -9,7 +9,7 @@ use texts::traces::{subtype_name, type_name, type_of};
 /// The highest type of a descriptor that is known, Last Segment.
 const LAST_TYPE: u8 = 3;
 
-/// Puts what of a descriptor's type is not known.
+/// Puts what is not known of a descriptor's type.
 fn put_type(out: &mut String, bytes: &[u8; 16]) -> Result<(), AllocError> {
     let (kind, subtype) = type_of(bytes);
     if kind > LAST_TYPE {

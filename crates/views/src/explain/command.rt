@@ -36,7 +36,7 @@ pub struct Explanation {
     pub status: Status,
 }
 
-/// How a command ends whose list was walked, by what stands in its blocks and by its own bytes.
+/// How a command ends whose list was walked, by what is in its blocks and by its own bytes.
 fn final_status(kind: Kind, stored: &[u8], bytes: &[u8], fault: Option<WalkFault>) -> Status
     ensures { (e : SubEntry) → kind_of_opcode e.opcode ≡ Some kind → result ≡ ends_with stored.now e bytes.now fault }
 {
@@ -47,7 +47,7 @@ fn final_status(kind: Kind, stored: &[u8], bytes: &[u8], fault: Option<WalkFault
     }
 }
 
-/// The bytes that a command begins with: those that stand in the blocks of a Read, and zeros for what a Write or a Compare fetches.
+/// The bytes that a command begins with: those in the blocks of a Read, and zeros for what a Write or a Compare fetches.
 fn first_bytes(alloc: Global, kind: Kind, stored: &[u8]) -> Result<Vec<u8>, AllocError>
     ensures len { IfOk result (λ bytes. length bytes.items ≡ length stored.now) }
     ensures zeros { IfOk result (λ bytes. kind ≢ Read → bytes.items ≡ replicate (length stored.now) 0) }
@@ -95,7 +95,7 @@ pub fn explain(
         → IsApart at (direction_of_entry entry.now) (list_of namespace.now.size (byte_in memory.old.pool) entry.now)
         → Ends at (byte_in memory.old.pool) (list_of namespace.now.size (byte_in memory.old.pool) entry.now) told.fault) }
 
-    // the descriptors told are those that its list reads, all of them, each with the bytes that stand at its place,
+    // the descriptors told are those that its list reads, all of them, each with the bytes at its address,
     ensures told { IfOk result (λ told. field_fault namespace.now.number namespace.now.size namespace.now.blocks entry.now ≡ None → (at : ℕ → Bool)
         → IsApart at (direction_of_entry entry.now) (list_of namespace.now.size (byte_in memory.old.pool) entry.now)
         → AreOf (byte_in memory.old.pool) entry.now.sgl1 (list_of namespace.now.size (byte_in memory.old.pool) entry.now) told.taken.items) }

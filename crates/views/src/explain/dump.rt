@@ -1,6 +1,7 @@
 //! Bytes as people type them and as tools print them, over several lines.
 //!
-//! A line of a dump may begin with an offset and end with a column of text. Which of its words are what is said by the widths of its words: `docs/FIRMWARE.md` has the forms.
+//! A line of a dump may begin with an offset and end with a column of text. The widths of its words say which of them are what: `docs/FIRMWARE.md`
+//! has the forms.
 
 use crate::explain::fault::Wrong;
 use crate::explain::lines::{Line, Stop, behind_prefix, digit_of, is_hex, value_of};
@@ -16,18 +17,18 @@ pub(crate) const FILE: u8 = b'@';
 enum Row {
     /// Words as people type them, without an offset.
     Typed,
-    /// Behind an offset with a colon: what stands behind two blanks is text.
+    /// After an offset with a colon: what follows two blanks is text.
     Colon,
-    /// Behind an offset, words of two digits, each a byte: what stands behind three blanks or a bar is text.
+    /// After an offset, words of two digits, each a byte: what follows three blanks or a bar is text.
     Bytes,
-    /// Behind an offset, words of more digits, each a number with its lowest byte first.
+    /// After an offset, words of more digits, each a number with its lowest byte first.
     Numbers,
     /// An offset alone.
     End,
 }
 
 impl Row {
-    /// Whether bytes end before a word, which stands behind so many blanks.
+    /// Whether bytes end before a word, which follows this many blanks.
     fn ends(self, word: &[u8], blanks: usize) -> bool {
         let bar = matches!(word, [b'|' | b'>', ..]);
         match self {
@@ -62,7 +63,7 @@ fn shared_width(line: Line<'_>) -> Option<usize> {
     Some(width)
 }
 
-/// The digits of an offset with a colon behind it.
+/// The digits of an offset with a colon after it.
 fn before_colon(word: &[u8]) -> Option<&[u8]> {
     let [digits @ .., b':'] = word else {
         return None;
@@ -74,9 +75,9 @@ fn before_colon(word: &[u8]) -> Option<&[u8]> {
 /// Why a word gives no bytes.
 #[derive(Clone, Copy)]
 enum NoBytes {
-    /// It has more than there may be.
+    /// It has more than allowed.
     TooMany,
-    /// It is no bytes.
+    /// It is not bytes.
     NoHex,
     /// Memory was refused.
     Memory,
@@ -132,7 +133,7 @@ fn parted(alloc: Global, word: &[u8]) -> Result<Vec<u8>, NoBytes> {
     Ok(bytes)
 }
 
-/// The bytes that a word is, so many at most.
+/// The bytes that a word is, this many at most.
 fn word_bytes(alloc: Global, row: Row, word: &[u8], most: usize) -> Result<Vec<u8>, NoBytes> {
     let bare = word.strip_suffix(b",").unwrap_or(word);
     let bytes = if row == Row::Numbers {
@@ -179,12 +180,12 @@ pub(crate) struct Dump {
     row: Vec<u8>,
     /// Whether that line has numbers.
     numbers: bool,
-    /// Whether a line `*` stands behind it.
+    /// Whether a line `*` follows it.
     starred: bool,
 }
 
 impl Dump {
-    /// Before the first line, of so many bytes at most.
+    /// Before the first line, of this many bytes at most.
     pub(crate) fn begin(alloc: Global, most: usize) -> Dump {
         Dump {
             most,
@@ -207,7 +208,7 @@ impl Dump {
         self.most.saturating_sub(self.filled)
     }
 
-    /// The fault of so many bytes more than were read, where that is known.
+    /// The fault of this many bytes more than were read, where that is known.
     fn too_many(&self, more: Option<u64>) -> Wrong {
         Wrong::TooManyBytes {
             most: self.most,
@@ -225,7 +226,7 @@ impl Dump {
         self.filled = self.filled.saturating_add(count);
     }
 
-    /// What a line is that begins with a word, behind which this is left of it.
+    /// What a line is that begins with a word, after which this is left of it.
     fn row_of(&self, word: &[u8], rest: Line<'_>) -> Row {
         if before_colon(word).is_some() {
             return Row::Colon;

@@ -7,7 +7,7 @@ use texts::traces::{
     put_completion_fields, put_entry_head, put_entry_words, put_submission_fields,
 };
 
-/// What stands behind the name of a thing of which there are so many.
+/// What follows the name of a thing, given how many there are.
 pub(crate) fn plural(number: u32) -> &'static str {
     if number == 1 { "" } else { "s" }
 }

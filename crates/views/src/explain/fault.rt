@@ -1,4 +1,4 @@
-//! Why lines are no case.
+//! Why lines are not a case.
 
 ghost use Rattle.std.specs.Prelude.{◌≡◌};
 ghost use Rattle.std.specs.Option.{option_map};
@@ -12,70 +12,70 @@ use std::{fmt, io};
 pub enum Wrong {
     /// It has more than 16,384 bytes, or one that is not ASCII.
     NoText,
-    /// Its first word is none that begins a line.
+    /// Its first word is not one that begins a line.
     NoKey,
-    /// A decimal number is wanted, of these.
+    /// A decimal number is expected, of these.
     NoNumber {
         /// The least.
         least: u64,
         /// The most.
         most: u64,
     },
-    /// A decimal number is wanted, of these, or that there are as many as may be.
+    /// A decimal number is expected, of these, or that there are as many as may be.
     NoSize {
         /// The least.
         least: u32,
         /// The most.
         most: u32,
     },
-    /// An address of the pool is wanted.
+    /// An address of the pool is expected.
     NoAddress {
         /// The pool's first address.
         first: u64,
         /// Its last address.
         last: u64,
     },
-    /// A multiple of 4,096 is wanted, with which the pool ends at 2^64.
+    /// A multiple of 4,096 is expected, with which the pool ends at 2^64.
     NoMultiple,
-    /// How many bytes a block has is wanted.
+    /// How many bytes a block has is expected.
     NoBlockSize,
-    /// Bytes are wanted.
+    /// Bytes are expected.
     NoHex,
-    /// A status is wanted.
+    /// A status is expected.
     NoStatus,
-    /// An offset is wanted that goes on where the line before ended.
+    /// An offset is expected that goes on where the line before ended.
     NoOffset(u64),
-    /// Behind a line that stands for others an offset is wanted.
+    /// After a line that stands for others an offset is expected.
     NoEnd,
     /// A file that is named cannot be read; the system's number of the reason, if it gave one.
     NoFile(Option<i32>),
-    /// A line of a file that is named is no line of a dump.
+    /// A line of a file that is named is not a line of a dump.
     NoDump(u32),
-    /// There are more bytes than there may be.
+    /// There are more bytes than allowed.
     TooManyBytes {
         /// How many there may be.
         most: usize,
         /// How many there are with this word, where that is known.
         found: Option<u64>,
     },
-    /// There are so many bytes, and others are wanted.
+    /// There are this many bytes, and another number is expected.
     NotSoMany {
         /// How many there are.
         found: usize,
-        /// How many are wanted.
+        /// How many are expected.
         wanted: usize,
     },
     /// A word is left over.
     Extra,
-    /// Sizes stand behind what they size.
+    /// Sizes come after what they size.
     Late,
     /// Bytes for a page that is out.
     IsOut,
     /// The line of this number has such bytes already.
     Given(u32),
-    /// The entry stands there already.
+    /// The entry is there already.
     Twice,
-    /// The namespace stands there already.
+    /// The namespace is there already.
     SecondNamespace,
 }
 
@@ -136,7 +136,7 @@ fn put_file<W: fmt::Write>(f: &mut fmt::Formatter<W>, wrong: Wrong) -> fmt::Resu
     }
 }
 
-/// The sentence for a word that is no number or no address.
+/// The sentence for a word that is not a number or an address.
 fn put_wanted<W: fmt::Write>(f: &mut fmt::Formatter<W>, wrong: Wrong) -> fmt::Result {
     match wrong {
         Wrong::NoNumber { least, most } => {
@@ -199,7 +199,7 @@ impl fmt::Display for Wrong {
     }
 }
 
-/// Why a text is no case.
+/// Why a text is not a case.
 #[derive(Clone, Copy, Debug, PartialEq, Eq)]
 pub enum CaseFault {
     /// The first line that is at fault, and where.

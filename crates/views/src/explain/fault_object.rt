@@ -17,7 +17,7 @@ struct FaultObject {
     sentence: String,
 }
 
-/// Puts the members of a fault, of which this is the sentence.
+/// Puts the members of a fault, which has this sentence.
 fn put_fault<S: Serializer>(out: &mut S, fault: CaseFault, sentence: &str) -> Result<(), S::Error>
     ensures { OnOk result (Sends (members_events (fault_members fault sentence.now)) (S.written out.old) (S.written out.new)) }
 {
@@ -62,7 +62,7 @@ fn sentence_or_nothing(alloc: Global, fault: CaseFault) -> Result<String, AllocE
     Ok(sentence_of(alloc, fault)?.unwrap_or(String::new(alloc)))
 }
 
-/// Puts the object of what is wrong with lines, or with the words of an entry: its name, where it stands, line and column from 1, and a sentence.
+/// Puts the object of what is wrong with lines, or with the words of an entry: its name, where it is, line and column from 1, and a sentence.
 ///
 /// # Errors
 ///

@@ -54,7 +54,7 @@ fn is_dump(text: &[u8]) -> bool {
         })
 }
 
-/// The bytes of a dump that a file is, so many at most. The place is that of the word that names the file.
+/// The bytes of a dump that a file is, this many at most. The place is that of the word that names the file.
 fn dumped(alloc: Global, place: Place, text: &[u8], most: usize) -> Result<Vec<u8>, Stop> {
     let mut dump = Dump::begin(alloc, most);
     let mut bytes = Vec::new(alloc);
@@ -87,7 +87,8 @@ fn dumped(alloc: Global, place: Place, text: &[u8], most: usize) -> Result<Vec<u
     Ok(bytes)
 }
 
-/// The bytes of a file, so many at most: those that it holds, or those that a dump in it has. The place is that of the word that names it, `@` and the file.
+/// The bytes of a file, this many at most: those it holds, or those that a dump in it has. The place is that of the word that names it, `@` and the
+/// file.
 pub(crate) fn file_bytes<R: AllocGlobal + Files>(
     rt: &R,
     folder: &str,

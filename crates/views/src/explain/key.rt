@@ -9,7 +9,7 @@ pub(crate) enum Key {
     Memory,
     /// The bytes of a page.
     Page,
-    /// Bytes from an address on.
+    /// Bytes starting at an address.
     At,
     /// A page that is out.
     Out,

@@ -11,7 +11,7 @@ ghost use Rattle.sgl_descriptor.specs.declared.Direction.TheVariants.{Source};
 ghost use Rattle.views.specs.Stored.{bytes_moved, field_fault, status_by};
 ghost use Rattle.io_commands.specs.declared.block_size.BlockSize.TheVariants.{Bytes512};
 
-/// A list whose bytes are fetched writes none of its descriptors, wherever they stand.
+/// A list whose bytes are fetched writes none of its descriptors, wherever they are.
 pub fn fetched_lists_stand_apart()
     ensures { (c : Course) → IsApart (λ _. true) Source c }
 {}

@@ -58,7 +58,7 @@ pub(crate) struct Line<'a> {
 }
 
 impl<'a> Line<'a> {
-    /// A line from its beginning on.
+    /// A line, starting at its beginning.
     pub(crate) fn of(bytes: &'a [u8]) -> Line<'a> {
         Line { bytes, at: 0 }
     }
@@ -68,7 +68,7 @@ impl<'a> Line<'a> {
         self.bytes.len()
     }
 
-    /// Where the next word stands; nothing where there is none.
+    /// Where the next word is; nothing where there is none.
     pub(crate) fn peek(&self) -> Option<Place> {
         word_from(self.bytes, self.at)
     }
@@ -90,7 +90,7 @@ impl<'a> Line<'a> {
         self.bytes.get(place.start..place.end).unwrap_or(&[])
     }
 
-    /// Where a next word stands, or where the line ends.
+    /// Where a next word is, or where the line ends.
     pub(crate) fn wanted(&mut self) -> Place {
         let end = self.bytes.len();
         self.next().unwrap_or(Place { start: end, end })
@@ -108,7 +108,7 @@ impl<'a> Line<'a> {
         }
     }
 
-    /// Sees that no word is left.
+    /// Checks that no word is left.
     pub(crate) fn done(&mut self) -> Result<(), Stop> {
         match self.next() {
             Some(place) => Err(Stop::At(place, Wrong::Extra)),
@@ -155,7 +155,7 @@ pub(crate) fn value_of(digits: &[u8], radix: u8) -> Option<u64> {
     Some(value)
 }
 
-/// What stands behind `0x`.
+/// What follows `0x`.
 pub(crate) fn behind_prefix(word: &[u8]) -> Option<&[u8]> {
     match word {
         [b'0', b'x' | b'X', digits @ ..] => Some(digits),
@@ -163,7 +163,7 @@ pub(crate) fn behind_prefix(word: &[u8]) -> Option<&[u8]> {
     }
 }
 
-/// The address that a word is: hexadecimal digits behind `0x`, or before an h.
+/// The address that a word is: hexadecimal digits after `0x`, or before an h.
 pub(crate) fn address_of(word: &[u8]) -> Option<u64> {
     if let Some(digits) = behind_prefix(word) {
         return value_of(digits, 16);
@@ -174,7 +174,7 @@ pub(crate) fn address_of(word: &[u8]) -> Option<u64> {
     }
 }
 
-/// Puts bytes over others, from a place on.
+/// Puts bytes over others, starting at a position.
 pub(crate) fn put_in(into: &mut [u8], from: usize, bytes: &[u8]) {
     for (slot, byte) in into.iter_mut().skip(from).zip(bytes) {
         *slot = *byte;

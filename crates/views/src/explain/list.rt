@@ -22,7 +22,7 @@ use std::alloc::{AllocError, Global};
 /// A descriptor that a walk took.
 #[derive(Clone, Copy, Debug, PartialEq, Eq)]
 pub struct Taken {
-    /// Which one, and where it stands.
+    /// Which one, and where it is.
     pub at: DescriptorAt,
     /// Its 16 bytes.
     pub bytes: [u8; 16],
@@ -72,7 +72,7 @@ fn counting(next: Option<Taken>, counted: u32) -> Option<Taken>
     Some(Taken { counted, ..next? })
 }
 
-/// Does a step over a memory of which nothing is touched, and tells the descriptor that it took, if it took one.
+/// Does a step over a memory in which nothing is touched, and tells the descriptor that it took, if it took one.
 fn step<D: Dma>(walk: &mut Walk, sgl1: &[u8; 16], dma: &mut D, staging: &mut [u8]) -> Option<Taken>
     requires open { is_over walk.old ≡ false }
     requires staging { length staging.old ≡ need_of walk.old }
@@ -80,10 +80,10 @@ fn step<D: Dma>(walk: &mut Walk, sgl1: &[u8; 16], dma: &mut D, staging: &mut [u8
     ensures walked { (at : ℕ → Bool) (m : Memory) (c : Course) → IsApart at (direction_of walk.old) c → Goes at m c walk.old (D.memory dma.old)
         → WalkedTo (is_over walk.new) at m c walk.new (D.memory dma.new) }
 
-    // The descriptor is the one that the step reads, as it stands in memory then,
+    // The descriptor is the one that the step reads, as it is in memory then,
     ensures taken { result ≡ taken_next (D.memory dma.old) sgl1.now walk.old }
 
-    // and it is told exactly where it is read: behind it, the other ones of the list are left to be told.
+    // and it is told exactly where it is read: after it, the other ones of the list are left to be told.
     ensures tells { (at : ℕ → Bool) (m : Memory) (c : Course) (told : List Taken) → IsApart at (direction_of walk.old) c
         → TellsTaken at m sgl1.now c told walk.old (D.memory dma.old)
         → ToldTo (is_over walk.new) at m sgl1.now c (with_next told (taken_next (D.memory dma.old) sgl1.now walk.old)) walk.new (D.memory dma.new) }

@@ -36,7 +36,7 @@ pub struct Namespace {
     pub given: Vec<GivenBlock>,
 }
 
-/// Whether so many blocks from a first one on do not all lie in a namespace of so many.
+/// Whether this many blocks starting at a first one do not all lie in a namespace of this many.
 pub(crate) fn is_outside(first: u64, number: u64, blocks: u64) -> bool
     ensures { result ≡ nat_lt blocks (first + number) }
 {
@@ -76,7 +76,7 @@ fn block_of(given: &[GivenBlock], number: u64) -> Option<&GivenBlock>
     given.iter().find(|block| block.number == number)
 }
 
-/// Puts the bytes of a block behind others.
+/// Puts the bytes of a block after others.
 fn put_block(
     out: &mut Vec<u8>,
     size: BlockSize,
@@ -92,7 +92,7 @@ fn put_block(
     }
 }
 
-/// What stands in the blocks of an entry, which the namespace has.
+/// What is in the blocks of an entry, which the namespace has.
 pub(crate) fn stored(
     alloc: Global,
     entry: &SubEntry,

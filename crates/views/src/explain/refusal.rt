@@ -58,7 +58,7 @@ impl Refusal {
     }
 }
 
-/// Puts the rule that a descriptor breaks which stands in SGL1.
+/// Puts the rule that a descriptor in SGL1 breaks.
 pub(crate) fn put_first_rule(
     out: &mut String,
     bytes: &[u8; 16],

@@ -15,7 +15,7 @@ pub(crate) struct Round {
     pub(crate) left_out: usize,
 }
 
-/// The first descriptor that stands where an earlier one does, by its place among all, and that earlier one.
+/// The first descriptor that is where an earlier one is, by its position among all, and that earlier one.
 fn first_repeated(all: &[Taken]) -> Option<(usize, Taken)> {
     for (i, taken) in all.iter().enumerate() {
         for earlier in all.iter().take(i) {

@@ -11,7 +11,7 @@ use entry_codec::{Status, SubEntry};
 use io_commands::{block_number, first_block, kind_of};
 use std::alloc::AllocError;
 
-/// A rule for a field of an entry, in the order in which they are looked at.
+/// A rule for a field of an entry, in the order in which they are checked.
 #[derive(Clone, Copy, PartialEq, Eq)]
 pub(crate) enum FieldRule {
     /// OPC is Read, Write or Compare.

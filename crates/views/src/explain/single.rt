@@ -60,7 +60,7 @@ impl Shown {
     }
 }
 
-/// Puts the bytes of a line behind those of the lines before it.
+/// Puts the bytes of a line after those of the lines before it.
 fn put_line<R: AllocGlobal + Files>(
     rt: &R,
     dump: &mut Dump,
@@ -91,7 +91,7 @@ fn put_line<R: AllocGlobal + Files>(
     Ok(())
 }
 
-/// So many bytes, of lines.
+/// This many bytes, of lines.
 fn array<R: AllocGlobal + Files, const N: usize>(rt: &R, text: &[u8]) -> Result<[u8; N], Stop> {
     let alloc = rt.alloc();
     let mut dump = Dump::begin(alloc, N);
@@ -181,7 +181,7 @@ fn object_of<R: AllocGlobal + Files>(rt: &R, what: Shown, words: &[u8]) -> Resul
     Ok(out)
 }
 
-/// Decodes an entry, a descriptor or a status that is typed, or stands in a file: each field by its name, and what of it the controller refuses whatever
+/// Decodes an entry, a descriptor or a status that is typed, or is in a file: each field by its name, and what of it the controller refuses whatever
 /// memory holds; in lines, or as one object of JSON.
 ///
 /// # Errors

@@ -154,7 +154,7 @@ pub(crate) fn put_more(
     }
 }
 
-/// How many descriptors of its segment stand after the last one that was taken.
+/// How many descriptors of its segment come after the last one that was taken.
 fn left_in_segment(taken: &[Taken]) -> u64 {
     let Some(place) = taken.last().and_then(|last| last.at.place) else {
         return 0;

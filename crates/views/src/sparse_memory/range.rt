@@ -12,7 +12,7 @@ pub(crate) struct Range {
 }
 
 impl Range {
-    /// The range of `count` bytes from an address on.
+    /// The range of `count` bytes starting at an address.
     pub(crate) fn new(addr: u64, count: usize) -> Self
         requires { count ≤ 4096 }
         ensures place { 4096 * result.page + result.at ≡ addr }

@@ -11,7 +11,7 @@ creates (Ok (CreateCq q n base vector)) = true
 creates (Ok (CreateSq q n base)) = true
 creates v = false
 
--- what is decided of a command that is no creation, or of a fault
+-- what is decided for a command that is not a creation, or for a fault
 abbrev verdict_on : Result AdminKind Status → DeviceView → AdminVerdict
 verdict_on (Err fault) view = Answer fault 0
 verdict_on (Ok (Abort q cid)) view = abort_verdict q cid view

@@ -1,4 +1,4 @@
--- The lists that came stand behind those that were there.
+-- The lists that came are after those that were there.
 use Rattle.std.proofs.{Common.{arith, rules, refl, sym, map}, lemmas.Grind.common_steps}
 use Rattle.driver_threads.proofs.UnderWay.{behind_none, one_added, place_within}
 use Rattle.driver_threads.proofs.jobs.add_all.Goals as goal

@@ -1,4 +1,4 @@
--- the lists that came stand behind those that were there
+-- the lists that came are after those that were there
 use Rattle.std.{proofs.Common.{◌≡◌, ◌+◌, length, map, vec_len}, specs.Vec.Iter.into_iter_len}
 use Rattle.driver_threads.specs.Behind.{behind}
 use Rattle.driver_threads.proofs.jobs.add_all.Given as goal

@@ -1,4 +1,4 @@
--- The list of the submitter grew, or there is one list more.
+-- The list of the submitter grew, or there is one more list.
 use Rattle.std.proofs.Common.{arith, ap, map, ◌∙◌}
 use Rattle.driver_threads.proofs.UnderWay.{added_there, added_last}
 use Rattle.driver_threads.proofs.jobs.add_ends.Goals as goal

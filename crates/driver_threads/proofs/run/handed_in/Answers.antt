@@ -1,4 +1,4 @@
--- Each submitter more hands in how its jobs went.
+-- Each further submitter hands in how its jobs went.
 use Rattle.std.proofs.{Common.{[], ◌∷◌, ◌≡◌, ◌∙◌, IfOk, ap, arith, length, refl, rules, sym}, lemmas.{Iterator.{Adapters.YieldsList-from_vec, Consumers.YieldsList-end}, List.{length-append, length-map}}}
 use Rattle.driver_threads.{proofs.Carried.{handed_all, handed_more, last_fits, none_went, ok_is, same_items, same_push}, specs.{Ends.{ends_of, statuses_of}, Jobs.WentBy}}
 use Rattle.driver_threads.proofs.run.handed_in.Goals as goal

@@ -1,4 +1,4 @@
--- Each submitter more gave back what it promised.
+-- Each further submitter gave back what it promised.
 use Rattle.std.proofs.{Common.{◌≡◌, ◌∙◌, IfOk, arith, rules, sym, subst}, lemmas.{Grind.common_steps, Iterator.{Adapters.YieldsList-from_vec, Consumers.YieldsList-end}}}
 use Rattle.std.specs.List.{AllZip}
 use Rattle.driver_threads.{proofs.Carried.{fits_push, same_items}, specs.Jobs.WentBy}

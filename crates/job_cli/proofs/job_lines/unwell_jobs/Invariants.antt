@@ -1,4 +1,4 @@
--- the submitters that are left are counted behind those that came
+-- the submitters that are left are counted after those that came
 use Rattle.std.proofs.Common.{◌≡◌, length, map}
 use Rattle.job_cli.specs.JobLines.{unwell_from, unwell_in}
 use Rattle.job_cli.proofs.job_lines.unwell_jobs.Given as goal

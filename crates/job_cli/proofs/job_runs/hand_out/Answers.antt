@@ -1,4 +1,4 @@
--- Each job goes to the list of its submitter, behind those that it had.
+-- Each job goes to the list of its submitter, after those that it had.
 use Rattle.std.proofs.{Common.{arith, sym, subst, ◌≡◌, ◌<◌, ◌++◌, ◌∷◌, ◌∙◌, List, map, All}, lemmas.Grind.common_steps}
 use Rattle.job_cli.{proofs.JobRuns.{next_is, given_more, headings_grow}, specs.declared.jobs.JobLine.JobLine}
 use Rattle.job_cli.proofs.job_runs.hand_out.Goals as goal

@@ -1,4 +1,4 @@
--- so many lists are there, all of them empty
+-- this many lists are there, all of them empty
 use Rattle.std.proofs.Common.{◌≡◌, ◌-◌, ◌≤◌, [], map, replicate, vec_len, vec_capacity}
 use Rattle.job_cli.proofs.job_runs.no_jobs.Given as goal
 

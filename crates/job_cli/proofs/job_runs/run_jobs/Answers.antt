@@ -1,4 +1,4 @@
--- What was written is the text of the run, or a front of it.
+-- What was written is the text of the run, or a prefix of it.
 use Rattle.job_cli.proofs.Told.{closing_is_cut, jobs_are_written, no_run_failed}
 use Rattle.job_cli.proofs.job_runs.run_jobs.Goals as goal
 

@@ -1,4 +1,4 @@
--- The jobs that were taken of one submitter more stand behind those taken before.
+-- The jobs that were taken of one more submitter follow those taken before.
 use Rattle.std.proofs.{Common.{◌∷◌, [], List, arith, ap, map, slice_set, ◌∙◌}, lemmas.List.{length-map, map-append}}
 use Rattle.driver_threads.specs.{Behind.behind, Values.Job}
 use Rattle.job_cli.proofs.JobRuns.{one_taken}

@@ -1,4 +1,4 @@
--- A write that fails leaves a front of what stands after the jobs; where the flush fails, all of it was written.
+-- A write that fails leaves a prefix of what follows the jobs; where the flush fails, all of it was written.
 use Rattle.std.proofs.{Common.{rules, inr, [], sym}, lemmas.List.append-nil}
 use Rattle.script_cli.proofs.{Runs.on_err, Texts.keeps_then}
 use Rattle.job_cli.proofs.telling.write_closing.Goals.{in-Lines+in_ok-text-in-Lines, in-Objects+in_ok-text-in-Objects}

@@ -1,4 +1,4 @@
--- One job more is told; a write that fails leaves a front of what is told.
+-- One more job is told; a write that fails leaves a prefix of what is told.
 use Rattle.std.proofs.Common.{◌∙◌}
 use Rattle.script_cli.proofs.Runs.{on_err}
 use Rattle.job_cli.proofs.Told.{one_passed, told_inside, told_more}

@@ -1,4 +1,4 @@
--- the rows that are left come behind the bytes so far
+-- the rows that are left come after the bytes so far
 use Rattle.std.proofs.Common.{◌≡◌, ◌++◌, ◌-◌}
 use Rattle.load.specs.Content.{rows}
 use Rattle.load.proofs.content.put_rows.Given as goal

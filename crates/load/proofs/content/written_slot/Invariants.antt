@@ -1,4 +1,4 @@
--- the blocks that are left come behind the bytes so far
+-- the blocks that are left come after the bytes so far
 use Rattle.std.proofs.Common.{◌≡◌, ◌++◌, ◌+◌, ◌-◌}
 use Rattle.load.specs.Content.{blocks_bytes, written}
 use Rattle.load.proofs.content.written_slot.Given as goal

@@ -1,4 +1,4 @@
--- the number lies between so many powers of two and one more of them
+-- the number lies between this many powers of two and one more of them
 use Rattle.load.proofs.Loads.{IsBetween}
 use Rattle.load.proofs.histogram.bucket_of.Given as goal
 

@@ -1,4 +1,4 @@
--- the commands that are left are counted behind those that came
+-- the commands that are left are counted after those that came
 use Rattle.std.{proofs.Common.◌≡◌, specs.{Iterator.Adapters.{zip_first, zip_second}, Slice.Iter.iter_rest}}
 use Rattle.load.specs.Tallies.{no_tally, tally_from}
 use Rattle.load.proofs.look.look_at.Given as goal

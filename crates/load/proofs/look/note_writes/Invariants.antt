@@ -1,4 +1,4 @@
--- the commands that are left are noted behind those that came
+-- the commands that are left are noted after those that came
 use Rattle.std.{proofs.Common.◌≡◌, specs.{Iterator.Adapters.{zip_first, zip_second}, Slice.Iter.iter_rest}}
 use Rattle.load.specs.Rounds.{noted}
 use Rattle.load.proofs.look.note_writes.Given as goal

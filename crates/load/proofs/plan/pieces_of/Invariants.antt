@@ -1,4 +1,4 @@
--- what is left comes behind the pieces so far
+-- what is left comes after the pieces so far
 use Rattle.std.proofs.Common.{◌≡◌, ◌++◌}
 use Rattle.load.specs.Planning.{pieces_of}
 use Rattle.load.proofs.plan.pieces_of.Given as goal

@@ -1,4 +1,4 @@
--- A slot that was written is read behind those before it; another is left out.
+-- A slot that was written is read after those before it; another is left out.
 use Rattle.std.proofs.Common.{[], ◌∷◌, ◌++◌, ◌∙◌, ◌+◌, arith, ap, subst, sym}
 use Rattle.load.{proofs.{Loads.one_more, Rounds.{read_left, read_put}}, specs.{Planning.IsInside, declared.plan.Planned.Planned}}
 use Rattle.load.proofs.plan.reads_of.Goals.{then-generations-slot-gt0+in_ok-push, else-generations-slot-gt0}

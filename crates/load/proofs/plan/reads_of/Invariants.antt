@@ -1,4 +1,4 @@
--- the reads that are left come behind those so far
+-- the reads that are left come after those so far
 use Rattle.std.proofs.Common.{◌≡◌, ◌++◌, ◌+◌, ◌-◌, All}
 use Rattle.load.specs.{Planning.IsInside, Rounds.reads_from}
 use Rattle.load.proofs.plan.reads_of.Given as goal

@@ -1,4 +1,4 @@
--- the plans that are left are counted behind those that came
+-- the plans that are left are counted after those that came
 use Rattle.std.proofs.Common.{◌≡◌, drop, map}
 use Rattle.load.specs.Rounds.{commands_from}
 use Rattle.load.proofs.run.commands_of.Given as goal

@@ -1,4 +1,4 @@
--- The rounds of the commands and of the reads behind them, and what was written.
+-- The rounds of the commands and of the reads after them, and what was written.
 use Rattle.std.proofs.Common.{subst}
 use Rattle.script_cli.proofs.Runs.{on_err}
 use Rattle.load.{proofs.Loads.front_written, specs.{Loaded.{IsReadAgain, setting_of, standing_of}, Rounds.{HasGoneOn, Setting, Standing}}}

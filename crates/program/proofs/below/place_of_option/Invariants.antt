@@ -1,4 +1,4 @@
--- the next word is looked for inside of the line
+-- the next word is searched for inside the line
 use Rattle.std.proofs.Common.{◌≤◌, length}
 use Rattle.program.proofs.below.place_of_option.Given as goal
 

@@ -1,4 +1,4 @@
--- Some JSON is put behind what was written.
+-- Some JSON is put after what was written.
 use Rattle.std.proofs.Common.{ℕ, List}
 use Rattle.script_cli.proofs.Runs.{kept_gains}
 use Rattle.program.proofs.loading.write_json.Goals as goal

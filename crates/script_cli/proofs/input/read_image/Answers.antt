@@ -1,4 +1,4 @@
--- An image has at most the bytes of the limit, so no byte more was read.
+-- An image has at most the bytes of the limit, so no further byte was read.
 use Rattle.std.proofs.{Common.{refl, sym}, lemmas.Bool.true≢false}
 use Rattle.script_cli.proofs.Texts.{image_is_told, no_image_is_told}
 use Rattle.script_cli.proofs.input.read_image.Goals as goal

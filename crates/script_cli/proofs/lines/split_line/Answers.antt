@@ -1,4 +1,4 @@
--- The text up to its first line feed and what stands after it, or the whole text where there is none.
+-- The text up to its first line feed and what follows it, or the whole text where there is none.
 use Rattle.std.proofs.{Common.{◌≡◌, ◌∷◌, []}, lemmas.List.nil_from_length}
 use Rattle.script_cli.{proofs.Texts.{cut_before, cut_onward, feed_found, feed_missing}, specs.Lines.{is_feed, onward}}
 use Rattle.script_cli.proofs.lines.split_line.Goals as goal

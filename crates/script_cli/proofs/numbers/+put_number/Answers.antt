@@ -1,4 +1,4 @@
--- The last digit stands behind the digits of the tenth.
+-- The last digit follows the digits of the tenth.
 use Rattle.std.proofs.{Common.arith, lemmas.{Fmt.{decimal_digit, decimal_step}, Grind.common_steps}}
 use Rattle.script_cli.proofs.numbers.+put_number.Goals as goal
 

@@ -1,4 +1,4 @@
--- what was written is the front of the bytes, and the rest is left
+-- what was written is a prefix of the bytes, and the rest is left
 use Rattle.std.{proofs.Common.{◌≡◌, ◌++◌, ℕ, List, length}, specs.Io.KnownBytes.Appends}
 use Rattle.script_cli.proofs.output.put.Given as goal
 

@@ -1,4 +1,4 @@
--- What was written is what the lines done print; a write that fails leaves a front of it.
+-- What was written is what the lines done print; a write that fails leaves a prefix of it.
 use Rattle.std.proofs.{Common.{arith, sym, ◌≡◌, [], ◌∷◌, ◌++◌}, lemmas.Grind.common_steps}
 use Rattle.script_cli.proofs.Runs.{on_err, printed_more, cut_between, cut_inside, cut_in_counts, whole_run, whole_text, kept_gains, whole_is_cut}
 use Rattle.script_cli.specs.Runs.{last_line, IsRunText, IsRunTo}

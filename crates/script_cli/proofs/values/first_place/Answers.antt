@@ -1,4 +1,4 @@
--- Both returns of the search: the first place that passes, or the length.
+-- Both returns of the search: the first position that passes, or the length.
 use Rattle.std.{proofs.{Common.{rules, arith, length, ◌≡◌, ◌==◌, get_or, true}, lemmas.List.Sums.position_or_len_is}, specs.List.position_or_len}
 use Rattle.script_cli.proofs.values.first_place.Goals as goal
 

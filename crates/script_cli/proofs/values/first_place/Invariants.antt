@@ -1,4 +1,4 @@
--- no byte so far was the one that is looked for
+-- no byte so far was the one searched for
 use Rattle.std.proofs.Common.{◌≡◌, ℕ, ◌<◌, ◌==◌, get_or, false}
 use Rattle.script_cli.proofs.values.first_place.Given as goal
 

@@ -1,4 +1,4 @@
--- no byte so far was the one that is looked for
+-- no byte so far was the one searched for
 use Rattle.std.proofs.Common.{◌≡◌, ℕ, ◌<◌, get_or, false}
 use Rattle.script_cli.specs.Lines.{is_blank}
 use Rattle.script_cli.proofs.words.first_blank.Given as goal

@@ -1,4 +1,4 @@
--- No word is left, or the first one and what stands after it.
+-- No word is left, or the first one and what follows it.
 use Rattle.std.proofs.Common.{rules, length, ◌≡◌, ◌<◌}
 use Rattle.script_cli.{proofs.Texts.{begun, cut_before, cut_onward, no_part, part_is_first}, specs.Lines.{is_blank, is_solid}}
 use Rattle.script_cli.proofs.words.split_word.Goals as goal

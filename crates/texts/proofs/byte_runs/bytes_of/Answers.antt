@@ -1,4 +1,4 @@
--- The next run is put behind those before it, or ends the bytes; and all runs were put.
+-- The next run is put after those before it, or ends the bytes; and all runs were put.
 use Rattle.std.proofs.Common.{rules, arith, ◌≡◌, ◌+◌, ◌∷◌, [], Err, drop, length, refl}
 use Rattle.std.proofs.lemmas.Iterator.{Consumers.{YieldsList-turn, YieldsList-end}, Splits.YieldsList-from_slice_split}
 use Rattle.std.proofs.lemmas.List.{drop_all, length_push}

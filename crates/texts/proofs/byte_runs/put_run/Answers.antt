@@ -1,4 +1,4 @@
--- The bytes, put so often, and how many these are.
+-- The bytes, put this often, and how many these are.
 use Rattle.std.proofs.Common.{rules, arith, ◌≡◌, ◌+◌, ◌*◌, ◌++◌, ◌∙◌, ℕ, List, ap, sym, Some, vec_len, length, add-one, append_assoc}
 use Rattle.std.proofs.lemmas.{List.append-nil}
 use Rattle.texts.{proofs.RunLemmas.{length_repeated, repeated_more, run_is}, specs.Runs.{repeated, run_parts, digit_bytes}}

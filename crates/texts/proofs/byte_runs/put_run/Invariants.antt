@@ -1,4 +1,4 @@
--- the bytes stand there as often as the loop went round
+-- the bytes are there as often as the loop went round
 use Rattle.std.proofs.Common.{◌≡◌, ◌+◌, ◌*◌, ◌++◌, vec_len}
 use Rattle.texts.specs.Runs.{repeated}
 use Rattle.texts.proofs.byte_runs.put_run.Given as goal

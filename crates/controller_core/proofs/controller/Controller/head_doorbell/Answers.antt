@@ -5,7 +5,7 @@ use Rattle.controller_core.proofs.controller.Controller.head_doorbell.Goals as g
 
 pub invariant_of-self : goal.invariant_of-self
 invariant_of-self g c = (
-  subst (λ (queues : List ControllerQueue). IsController (record { queues = queues; commands = c.self.inside.commands.list; image = c.self.inside.image }))
+  subst (λ (queues : List ControllerQueue). IsController (record { queues = queues; commands = c.self.inside.commands.list; image = g.I.Blocks.bytes c.self.inside.image }))
       (sym c.hear_head_of.ensures) (rung_kept _ c.args.q (with_head c.args.value) c.self.invariant.0),
   c.self.invariant.1 ∙ sym (ap length c.hear_head_of.ensures ∙ length-change c.args.q (with_head c.args.value) c.self.inside.queues.items),
   few_stay _ _ (ap length c.hear_head_of.ensures ∙ length-change c.args.q (with_head c.args.value) c.self.inside.queues.items) c.self.invariant.2,

@@ -24,7 +24,7 @@ act-requires g c =
 pub invariant_of-self-2 : goal.invariant_of-self-2
 invariant_of-self-2 g c =
     let i = c.self.inside in
-    let old : Contents = record { queues = i.queues.items; commands = i.commands.list; image = i.image } in
+    let old : Contents = record { queues = i.queues.items; commands = i.commands.list; image = g.I.Blocks.bytes i.image } in
     let r = rw (← c.self.view_is) at c.requires in (
       managed_sound c.args.pages old _ c.args.entry c.self.invariant.0 r.there r.unknown
           (managed_is c.args.pages old c.args.entry c.decide-verdict.result c.take_entry.new.queues.items c.act.new.queues.items c.put.new.self.list c.act.new.commands.list c.fetched.result
@@ -40,7 +40,7 @@ invariant_of-self-2 g c =
 pub returns-clause-managed : goal.returns-clause-managed
 returns-clause-managed g c =
     let i = c.self.inside in
-    let old : Contents = record { queues = i.queues.items; commands = i.commands.list; image = i.image } in
+    let old : Contents = record { queues = i.queues.items; commands = i.commands.list; image = g.I.Blocks.bytes i.image } in
     rw (← c.self.view_is) (managed_is c.args.pages old c.args.entry c.decide-verdict.result c.take_entry.new.queues.items c.act.new.queues.items c.put.new.self.list c.act.new.commands.list c.fetched.result
     (c.decide-verdict.ensures ∙ ap (decision c.args.entry) (c.view_of.ensures ∙ ap (λ (qs : List ControllerQueue). view_for c.args.pages qs i.commands.list c.args.entry) c.deref.ensures.value))
     c.take_entry.ensures c.act.ensures.queues

@@ -1,4 +1,4 @@
--- One job more is carried; at the end all of them went so.
+-- One more job is carried; at the end all of them went this way.
 use Rattle.std.proofs.{Common.{◌≡◌, ◌∙◌, arith, rules, sym, subst}, lemmas.{Grind.common_steps, Iterator.{Adapters.YieldsList-from_vec, Consumers.YieldsList-end}}}
 use Rattle.driver_threads.{proofs.Carried.{at_most, landed_so, same_items, under_condition}, specs.JobSteps.Carries}
 use Rattle.driver_threads.proofs.flight.Flight.carry_all.Goals as goal

@@ -1,4 +1,4 @@
--- The refused job's end stands behind those of the commands that were in flight.
+-- The refused job's end comes after those of the commands that were in flight.
 use Rattle.driver_threads.proofs.{Carried.carries_refused, UnderWay.one_refused}
 use Rattle.driver_threads.proofs.flight.Flight.refuse.Goals as goal
 

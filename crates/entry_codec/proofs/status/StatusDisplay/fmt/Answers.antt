@@ -1,4 +1,4 @@
--- What is written of the code, and that these are its two digits.
+-- What is written for the code, and that these are its two digits.
 use Rattle.std.proofs.{Common.{rules, true, ◌<◌}, lemmas.Fmt.hex_byte}
 use Rattle.entry_codec.proofs.status.StatusDisplay.fmt.Goals as goal
 

@@ -1,4 +1,4 @@
--- so many submitters have their jobs
+-- this many submitters have their jobs
 use Rattle.std.{proofs.Common.{◌≡◌, ◌<◌, ℕ, List, length, map, vec_len}, specs.Prelude.slice_index_or}
 use Rattle.load.specs.{Course.queue_of, Planning.{TaskJob, job_for}, declared.plan.Planned.Planned}
 use Rattle.load.proofs.course.Course.jobs.Given as goal

@@ -1,4 +1,4 @@
--- One submitter more is counted and noted behind those that came.
+-- One more submitter is counted and noted after those that came.
 use Rattle.std.proofs.{Common.{◌∙◌, List, ap, ap₂, arith, length, sym, ℕ}, lemmas.Slice.Zip.either_empty_from_Zip}
 use Rattle.load.{proofs.{Loads.{all_lists_counted, one_list_counted}, Rounds.{no_lists_noted, one_list_noted, written_back}}, specs.{Rounds.noted, Tallies.{TaskEnd, both, no_tally, tally_from}}}
 use Rattle.load.specs.declared.{plan.Planned.Planned, tally.Tally.Tally}

@@ -1,4 +1,4 @@
--- the submitters that are left are counted behind those that came; the slots and what they held at first stay
+-- the submitters that are left are counted after those that came; the slots and what they held at first stay
 use Rattle.std.{proofs.Common.{◌≡◌, map}, specs.{Iterator.Adapters.{zip_first, zip_second}, Slice.Iter.iter_rest}}
 use Rattle.load.specs.{Rounds.all_noted, Tallies.{no_tally, tallies_from}}
 use Rattle.load.proofs.course.Course.look.Given as goal

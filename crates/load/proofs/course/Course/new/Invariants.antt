@@ -1,4 +1,4 @@
--- so many submitters have what they draw from
+-- this many submitters have what they draw from
 use Rattle.std.{proofs.Common.{◌≡◌, ◌*◌, vec_len}, specs.Prelude.IfSome}
 use Rattle.load.proofs.course.Course.new.Given as goal
 

@@ -1,4 +1,4 @@
--- The plan of the next submitter stands behind those of the others.
+-- The plan of the next submitter follows those of the others.
 use Rattle.std.proofs.{Common.{◌∙◌, ◌∷◌, [], All, Global, List, Vec, ap, arith, length, subst, sym, ℕ}, lemmas.List.length-append}
 use Rattle.load.{proofs.Loads.{each_more, one_more}, specs.{Course.share_of, Planning.{IsInside, IsPlanOf}, declared.layout.Layout.Layout}}
 use Rattle.load.proofs.course.Course.plan.Goals as goal

@@ -1,4 +1,4 @@
--- so many submitters have their plans; the slots and how often they were written stay
+-- this many submitters have their plans; the slots and how often they were written stay
 use Rattle.std.{proofs.Common.{All, ◌≡◌, ◌<◌, ℕ, List, length, map}, specs.Prelude.slice_index_or}
 use Rattle.load.specs.{Course.share_of, Planning.{IsInside, IsPlanOf}, declared.plan.Planned.Planned}
 use Rattle.load.proofs.course.Course.plan.Given as goal

@@ -1,4 +1,4 @@
--- so many submitters have their reads, each of a slot
+-- this many submitters have their reads, each of a slot
 use Rattle.std.{proofs.Common.{◌≡◌, ◌<◌, ◌+◌, ◌*◌, ℕ, List, All, length, map, vec_len}, specs.Prelude.slice_index_or}
 use Rattle.load.specs.{Planning.IsInside, Rounds.reads_from, declared.plan.Planned.Planned}
 use Rattle.load.proofs.course.Course.plan_reads.Given as goal

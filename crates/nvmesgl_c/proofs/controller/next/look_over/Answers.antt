@@ -15,4 +15,4 @@ returns-clause-kept c =
     (λ k high. slice_get_past c.args.memory.now.lent.now.bytes.now k (omega (arith, high, c.args.memory.now.lent.now.few))) c.next_step.ensures.memory
 
 pub returns-clause-sees : goal.returns-clause-sees
-returns-clause-sees c = sees_named c.args.controller.now (slice_get c.args.memory.now.lent.now.bytes.now) _ c.next_step.result c.next_step.ensures.possible c.next_step.ensures.rest
+returns-clause-sees c = sees_named c.args.controller.now.contents (slice_get c.args.memory.now.lent.now.bytes.now) _ c.next_step.result c.next_step.ensures.possible c.next_step.ensures.rest

@@ -21,4 +21,4 @@ returns-clause-kept c =
     (λ k high. past_none c.args.memory.now.lent.now.regions.now k (omega (arith, high))) c.next_step.ensures.memory
 
 pub returns-clause-sees : goal.returns-clause-sees
-returns-clause-sees c = sees_named c.args.controller.now (memory_of c.args.memory.now.lent.now.regions.now) _ c.next_step.result c.next_step.ensures.possible c.next_step.ensures.rest
+returns-clause-sees c = sees_named c.args.controller.now.contents (memory_of c.args.memory.now.lent.now.regions.now) _ c.next_step.result c.next_step.ensures.possible c.next_step.ensures.rest

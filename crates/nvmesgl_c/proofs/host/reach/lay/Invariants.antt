@@ -1,7 +1,7 @@
 use Rattle.nvmesgl_c.proofs.Laying.{LaysOn}
 use Rattle.nvmesgl_c.proofs.host.reach.lay.Given as goal
 
--- so many runs stand in front, and those that are left go behind them
+-- this many runs are at the start, and those that are left go after them
 abbrev pub invariant-loop-run : goal.invariant-loop-run
 invariant-loop-run l = record {
   can : (goal.iterator-loop-run).can_next l.left;

@@ -1,4 +1,4 @@
--- What stands before and behind the equals sign, or that there is none.
+-- What is before and after the equals sign, or that there is none.
 use Rattle.std.proofs.{Common.{ℕ, ◌≡◌, [], ◌∙◌, ap, drop, sym, take}, lemmas.List.nil_from_length}
 use Rattle.script_cli.{proofs.Texts.{cut_before, cut_onward}, specs.{Lines.{before, onward}, Options.is_equals}}
 use Rattle.script_cli.proofs.transcripts.options.split_equals.Goals as goal

@@ -1,4 +1,4 @@
--- What words say, by the option that is taken and by the words behind it.
+-- What words say, by the option that is taken and by the words after it.
 use Rattle.std.proofs.Common.{◌≡◌, ◌∷◌}
 use Rattle.script_cli.proofs.Options.{joined_said, rest_said}
 use Rattle.script_cli.proofs.transcripts.options.take_option.Goals as goal

@@ -1,4 +1,4 @@
--- No sign stands behind the indent.
+-- No sign follows the indent.
 use Rattle.std.proofs.{Common.{lit<, ◌∙◌, ap, None}, lemmas.Str.Pattern.strip_prefix_char}
 use Rattle.script_cli.{proofs.Answers.no_sign, specs.Transcripts.behind_indent}
 use Rattle.script_cli.proofs.transcripts.read.answer_of.Goals as goal

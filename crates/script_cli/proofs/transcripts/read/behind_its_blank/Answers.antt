@@ -1,4 +1,4 @@
--- What stands behind the sign is not empty, so it has to begin with a blank.
+-- What follows the sign is not empty, so it has to begin with a blank.
 use Rattle.std.proofs.Common.{◌<◌, ◌∙◌, length, rules}
 use Rattle.script_cli.proofs.Answers.{sign_of}
 use Rattle.script_cli.proofs.transcripts.read.behind_its_blank.Goals as goal

@@ -1,4 +1,4 @@
--- the blanks passed stand at the front of the text
+-- the blanks passed are at the start of the text
 use Rattle.std.proofs.Common.{◌≡◌, length}
 use Rattle.script_cli.specs.Lines.{is_solid, onward}
 use Rattle.script_cli.proofs.transcripts.read.unindented.Given as goal

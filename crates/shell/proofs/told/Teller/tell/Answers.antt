@@ -1,4 +1,4 @@
--- What was written is what is told of the lines done; a write that fails leaves a front of it.
+-- What was written is what is told of the lines done; a write that fails leaves a prefix of it.
 use Rattle.std.proofs.{Common.{arith, sym, ◌≡◌, [], ◌∷◌, ◌++◌}, lemmas.Grind.common_steps}
 use Rattle.script_cli.{proofs.Runs.{kept_gains, on_err}}
 use Rattle.shell.{proofs.ToldRuns.{cut_at_the_end, cut_between, cut_inside, told_more, whole, whole_is_cut}, specs.Told.{IsToldTo}}

@@ -1,4 +1,4 @@
--- the place stands in the line
+-- the position is in the line
 use Rattle.std.proofs.Common.{◌≤◌, length}
 use Rattle.texts.proofs.faults.finding.pieces_after.Given as goal
 

@@ -1,4 +1,4 @@
--- the character stands there as often as the loop went round
+-- the character is there as often as the loop went round
 use Rattle.std.proofs.Common.{◌≡◌, ◌++◌, replicate, string_bytes}
 use Rattle.texts.proofs.faults.layout.put_often.Given as goal
 

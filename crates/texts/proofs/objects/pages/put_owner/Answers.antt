@@ -1,4 +1,4 @@
--- The members one behind the other.
+-- The members one after the other.
 use Rattle.std.proofs.lemmas.Result.{on_ok_weaker}
 use Rattle.texts.proofs.ObjectTexts.{sends_both}
 use Rattle.texts.proofs.objects.pages.put_owner.Goals as goal

@@ -1,4 +1,4 @@
--- The members of each answer, one behind the other.
+-- The members of each answer, one after the other.
 use Rattle.std.proofs.lemmas.Result.{on_ok_weaker}
 use Rattle.texts.proofs.{ObjectTexts.sends_both, ReplyObjects.{named_as, named_both, named_none, named_then, walked_then}}
 use Rattle.texts.specs.ReplyObjects.{touched_members}

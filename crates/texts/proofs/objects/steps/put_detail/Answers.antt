@@ -1,4 +1,4 @@
--- What more is said, one behind the other.
+-- What more is said, one after the other.
 use Rattle.std.proofs.lemmas.Result.{on_ok_weaker}
 use Rattle.texts.proofs.ObjectTexts.{sends_both}
 use Rattle.texts.proofs.objects.steps.put_detail.Goals as goal

@@ -1,4 +1,4 @@
--- The members one behind the other.
+-- The members one after the other.
 use Rattle.std.proofs.Common.{codes}
 use Rattle.std.proofs.lemmas.Result.{on_ok_weaker}
 use Rattle.serde_json.specs.Data.{number, unsigned}

@@ -1,4 +1,4 @@
--- The text, and behind it the name that the status has.
+-- The text, and after it the name that the status has.
 use Rattle.std.proofs.Common.{Some}
 use Rattle.std.proofs.lemmas.Result.{on_ok_weaker}
 use Rattle.texts.proofs.ObjectTexts.{sends_both}

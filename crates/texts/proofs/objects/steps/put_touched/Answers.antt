@@ -1,4 +1,4 @@
--- Each page is sent behind those before it; all of them are, between the marks of an array.
+-- Each page is sent after those before it; all of them are, between the marks of an array.
 use Rattle.std.proofs.Common.{◌≡◌, ◌∙◌, ◌+◌, [], ◌∷◌, ap, arith, codes, drop, subst, sym}
 use Rattle.std.proofs.lemmas.{List.{drop_all, drop_more}, Result.on_ok_weaker}
 use Rattle.serde.specs.Event.{unsigned}

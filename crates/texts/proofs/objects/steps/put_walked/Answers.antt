@@ -1,4 +1,4 @@
--- The answer's name, and behind it the status.
+-- The answer's name, and after it the status.
 use Rattle.std.proofs.lemmas.Result.{on_ok_weaker}
 use Rattle.texts.proofs.ReplyObjects.{named_both}
 use Rattle.texts.proofs.objects.steps.put_walked.Goals as goal

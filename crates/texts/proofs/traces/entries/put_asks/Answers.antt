@@ -1,4 +1,4 @@
--- The pieces stand one behind the other.
+-- The pieces come one after the other.
 use Rattle.std.proofs.Common.{rules, ◌≡◌, ◌++◌, OnOk, codes, decimal, string_bytes}
 use Rattle.std.proofs.lemmas.Result.{on_ok_weaker}
 use Rattle.texts.{proofs.Appended.put_behind, specs.{Fields.asks_text, Slots.byte_text}}

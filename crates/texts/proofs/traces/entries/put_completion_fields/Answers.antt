@@ -1,4 +1,4 @@
--- The name that the status has stands behind it.
+-- The name that the status has follows it.
 use Rattle.std.proofs.Common.{rules, ◌≡◌, ◌++◌, OnOk, Some, string_bytes}
 use Rattle.std.proofs.lemmas.Result.{on_ok_weaker}
 use Rattle.texts.{proofs.Appended.put_behind, specs.Fields.named_text}

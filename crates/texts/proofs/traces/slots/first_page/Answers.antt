@@ -1,4 +1,4 @@
--- One page more is of another.
+-- One more page is of another.
 use Rattle.std.proofs.{Common.{rules, arith, ◌≡◌, ◌≢◌, ℕ, Bool, true, false, refl, subst, nat_lt}, lemmas.Bool.Decides.nat_tests}
 use Rattle.page_ledger.specs.declared.owner.Owner.TheVariants.{Queue}
 use Rattle.texts.specs.Slots.{IsOfAnother}

@@ -1,4 +1,4 @@
--- The descriptor is looked at before the step, and that changes no byte.
+-- The descriptor is read before the step, and that changes no byte.
 use Rattle.std.proofs.Common.{◌≡◌, sym, subst}
 use Rattle.controller_walk.specs.Walks.{is_over}
 use Rattle.views.{proofs.{Fetched.step_fetches, Telling.{tells_on, steps_on}}, specs.{Ending.Goes, Fetched.Fetches, Taking.{TellsTaken, ToldTo, taken_next, with_next}}}

@@ -1,4 +1,4 @@
--- the walk stands in its list, or has ended as that does; it has fetched what that moves, and the descriptors that it read are told
+-- the walk is in its list, or has ended as that does; it has fetched what that moves, and the descriptors that it read are told
 use Rattle.controller_walk.specs.Walks.{left_of}
 use Rattle.views.specs.{Fetched.Fetches, Sparse.byte_in}
 use Rattle.views.proofs.Telling.{Telling, Standing}

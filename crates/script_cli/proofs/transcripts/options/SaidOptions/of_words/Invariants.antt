@@ -1,4 +1,4 @@
--- no submitters are said that there may not be
+-- no number of submitters is said that is not allowed
 use Rattle.std.proofs.Common.{length}
 use Rattle.script_cli.specs.Options.{AreFew}
 use Rattle.script_cli.proofs.transcripts.options.SaidOptions.of_words.Given as goal

@@ -1,4 +1,4 @@
--- The members one behind the other, between the marks of an object.
+-- The members one after the other, between the marks of an object.
 use Rattle.std.proofs.Common.{None}
 use Rattle.std.proofs.lemmas.Result.{on_ok_weaker}
 use Rattle.serde.specs.Event.{map_begins, map_ends}

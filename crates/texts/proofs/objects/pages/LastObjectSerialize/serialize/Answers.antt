@@ -1,4 +1,4 @@
--- The counts behind their name, between the marks of an object.
+-- The counts after their name, between the marks of an object.
 use Rattle.std.proofs.Common.{None, codes}
 use Rattle.std.proofs.lemmas.Result.{on_ok_weaker}
 use Rattle.serde.specs.Event.{field_key, map_begins, map_ends}

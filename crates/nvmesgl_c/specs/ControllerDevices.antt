@@ -1,0 +1,17 @@
+-- A controller of one of two kinds, as contracts see it.
+use Rattle.std.specs.Prelude.{Bool, true, false}
+use Rattle.controller_core.specs.Contents.{Contents}
+
+-- what it keeps, and whether its blocks are lent for each call: else it holds an image
+pub record DeviceContents : Type 0 where
+  pub contents : Contents
+  pub lends : Bool
+
+abbrev pub holding : Contents → DeviceContents
+holding c = record { contents = c; lends = false }
+
+abbrev pub lending : Contents → DeviceContents
+lending c = record { contents = c; lends = true }
+
+abbrev pub with_contents : Contents → DeviceContents → DeviceContents
+with_contents c d = record { contents = c; lends = d.lends }
