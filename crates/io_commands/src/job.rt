@@ -262,11 +262,11 @@ impl<A: Allocator> Job<A> {
         ensures { result ≡ spec_lacks_blocks (I.at_hand image.now) self.now }
     {
         let number = block_number(&self.entry);
-        !image.has(first_block(&self.entry), number) && self.ends_over_blocks()
+        !image.has(first_block(&self.entry), number) && self.needs_blocks()
     }
 
     /// Whether the end of the job reads or writes blocks.
-    fn ends_over_blocks(&self) -> bool
+    fn needs_blocks(&self) -> bool
         ensures { result ≡ needs_blocks self.now }
     {
         match (self.verdict, kind_of(self.entry.opcode)) {

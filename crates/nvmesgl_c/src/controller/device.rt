@@ -1,6 +1,6 @@
 //! A controller of one of two kinds: it holds an image, or its blocks are lent for each call that reads or writes them.
 
-ghost use Rattle.std.specs.Prelude.{◌≡◌, ◌≤◌, [], true, false, None, IfOk, IfSome, IfNone, OnOk, OnErr, find, length};
+ghost use Rattle.std.specs.Prelude.{◌≡◌, ◌≤◌, true, false, None, IfOk, IfSome, IfNone, OnOk, OnErr, find, length};
 ghost use Rattle.std.specs.Option.{option_copied};
 ghost use Rattle.std.specs.Result.{result_err};
 ghost use Rattle.block_image.specs.Blocks.{block_count};

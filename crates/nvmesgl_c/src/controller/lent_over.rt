@@ -1,6 +1,6 @@
 //! The controller's calls over regions of memory and over blocks, both lent.
 
-ghost use Rattle.std.specs.Prelude.{◌≡◌, ◌↔◌, IsTrue, [], Some, true, length};
+ghost use Rattle.std.specs.Prelude.{◌≡◌, ◌↔◌, IsTrue, [], Some, true};
 ghost use Rattle.block_image.specs.Blocks.{IsPart, block_count};
 ghost use Rattle.nvmesgl_c.specs.Answers.{nothing};
 ghost use Rattle.nvmesgl_c.specs.ControllerLent as lents;
