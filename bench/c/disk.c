@@ -2,16 +2,15 @@
  * and a guest that changes an entry meanwhile; then arbitrary commands beside a model in memory, with a callback that fails now and then. */
 #define _XOPEN_SOURCE 700
 #define _FILE_OFFSET_BITS 64
+#include "../../examples/c/entry.h"
 #include "arbitrary.h"
 #include "nvmectl.h"
 
-#include <stdio.h>
 #include <stdlib.h>
-#include <string.h>
 #include <unistd.h>
 
 enum { PAGE = 4096, BLOCK = 512, ENTRIES = 4, RING = 2 * PAGE, ENDS = 3 * PAGE, LIST = 4 * PAGE, MOST = 8, WINDOWS = 6, WINDOW = 24 };
-enum { WRITE = 1, READ = 2, COMPARE = 5, DIFFERS = 0x285, OUT_OF_RANGE = 0x080 };
+enum { DIFFERS = 0x285, OUT_OF_RANGE = 0x080 };
 #define BLOCKS UINT32_C(0x80000000)
 #define HIGH UINT64_C(0x100000000)
 
@@ -63,29 +62,13 @@ static const nvmectl_disk disk = {&file, disk_read, disk_write};
 
 /* The guest --------------------------------------------------------------------------------------------------------- */
 
-static void put(uint8_t *at, uint64_t value, int bytes) {
-    for (int i = 0; i < bytes; i++) at[i] = (uint8_t)(value >> 8 * i);
-}
-
-static void describe(uint8_t *at, unsigned type, uint64_t address, uint32_t length) {
-    memset(at, 0, 16);
-    put(at, address, 8);
-    put(at + 8, length, 4);
-    at[15] = (uint8_t)(type << 4);
-}
-
 /* A command of queue 1: its data is at the start of the high memory, in one piece or in two. */
 static void submit(unsigned opcode, uint16_t cid, uint64_t slba, unsigned blocks, unsigned cut) {
     uint8_t *entry = low + RING + 64 * slot;
-    memset(entry, 0, 64);
-    entry[0] = (uint8_t)opcode, entry[1] = 0x40;
-    put(entry + 2, cid, 2);
-    put(entry + 4, 1, 4);
+    write_entry(entry, opcode, cid, slba, blocks);
     describe(entry + 24, cut ? 3 : 0, cut ? LIST : HIGH, cut ? 32 : BLOCK * blocks);
     describe(low + LIST, 0, HIGH, cut);
     describe(low + LIST + 16, 0, HIGH + cut, BLOCK * blocks - cut);
-    put(entry + 40, slba, 8);
-    put(entry + 48, blocks - 1, 2);
     slot = (slot + 1) % ENTRIES;
     want("tail", nvmectl_tail(&controller, 1, (uint16_t)slot), NVMESGL_DONE);
 }
@@ -151,25 +134,25 @@ static int all(const uint8_t *bytes, uint8_t value, size_t count) {
 /* The first and the last blocks, and those that were never written. */
 static void far_blocks(void) {
     memset(data, 7, sizeof data);
-    holds("Write of the last blocks", done(WRITE, 1, BLOCKS - 8, 8) == 0 && writes == 1 && reads == 0);
-    holds("Compare with them", done(COMPARE, 2, BLOCKS - 8, 8) == 0 && reads == 1);
+    holds("Write of the last blocks", done(OPCODE_WRITE, 1, BLOCKS - 8, 8) == 0 && writes == 1 && reads == 0);
+    holds("Compare with them", done(OPCODE_COMPARE, 2, BLOCKS - 8, 8) == 0 && reads == 1);
     data[8 * BLOCK - 1]++;
-    holds("Compare with others", done(COMPARE, 3, BLOCKS - 8, 8) == DIFFERS);
-    holds("Read of never written blocks", done(READ, 4, BLOCKS / 2, 8) == 0 && all(data, 0, 8 * BLOCK));
-    holds("Read of the last block", done(READ, 5, BLOCKS - 1, 1) == 0 && all(data, 7, BLOCK) && all(data + BLOCK, 0, 7 * BLOCK));
-    holds("Read past the last block", done(READ, 6, BLOCKS - 1, 2) == OUT_OF_RANGE && done(READ, 7, BLOCKS, 1) == OUT_OF_RANGE);
-    holds("Read of block 0", done(READ, 8, 0, 1) == 0 && all(data, 0, BLOCK));
+    holds("Compare with others", done(OPCODE_COMPARE, 3, BLOCKS - 8, 8) == DIFFERS);
+    holds("Read of never written blocks", done(OPCODE_READ, 4, BLOCKS / 2, 8) == 0 && all(data, 0, 8 * BLOCK));
+    holds("Read of the last block", done(OPCODE_READ, 5, BLOCKS - 1, 1) == 0 && all(data, 7, BLOCK) && all(data + BLOCK, 0, 7 * BLOCK));
+    holds("Read past the last block", done(OPCODE_READ, 6, BLOCKS - 1, 2) == OUT_OF_RANGE && done(OPCODE_READ, 7, BLOCKS, 1) == OUT_OF_RANGE);
+    holds("Read of block 0", done(OPCODE_READ, 8, 0, 1) == 0 && all(data, 0, BLOCK));
 }
 
 /* Codes of calls that are lent blocks, step by step. */
 static void lent_calls(void) {
     static uint8_t blocks[4 * BLOCK], longer[4 * BLOCK];
     uint8_t *const one = blocks + BLOCK;
-    submit(READ, 9, 5, 1, 0);
+    submit(OPCODE_READ, 9, 5, 1, 0);
     want("a buffer of no whole blocks", nvmectl_fetch_lent(&controller, 1, guest, 2, 0, blocks, 511, &wanted, &answer), NVMESGL_NO_BLOCKS);
     want("a buffer past the end", nvmectl_fetch_lent(&controller, 1, guest, 2, BLOCKS - 3, blocks, sizeof blocks, &wanted, &answer), NVMESGL_NO_BLOCKS);
     want("nothing lent", nvmectl_fetch_lent(&controller, 1, guest, 2, 0, NULL, 0, &wanted, &answer), NVMESGL_NOT_LENT);
-    holds("what is wanted", wanted.slba == 5 && wanted.blocks == 1 && wanted.opcode == READ && answer.touched_count == 1 && all(wanted.reserved, 0, sizeof wanted.reserved));
+    holds("what is wanted", wanted.slba == 5 && wanted.blocks == 1 && wanted.opcode == OPCODE_READ && answer.touched_count == 1 && all(wanted.reserved, 0, sizeof wanted.reserved));
     want("other blocks", nvmectl_fetch_lent(&controller, 1, guest, 2, 6, blocks, sizeof blocks, &wanted, &answer), NVMESGL_NOT_LENT);
     memset(blocks, 1, sizeof blocks), memset(one, 2, BLOCK);
     want("more blocks", nvmectl_fetch_lent(&controller, 1, guest, 2, 4, blocks, sizeof blocks, &wanted, &answer), NVMESGL_DONE);
@@ -180,12 +163,12 @@ static void lent_calls(void) {
     holds("a Read", reap(9) == 0 && all(data, 2, BLOCK));
 
     memset(data, 3, BLOCK);
-    submit(WRITE, 10, 5, 1, 0);
+    submit(OPCODE_WRITE, 10, 5, 1, 0);
     want("a Write is fetched with nothing lent", nvmectl_fetch_lent(&controller, 1, guest, 2, 0, NULL, 0, &wanted, &answer), NVMESGL_DONE);
     want("it walks", nvmectl_complete_lent(&controller, 1, 10, guest, 2, 0, NULL, 0, &wanted, &answer), NVMESGL_WALKING);
     walk(10);
     want("nothing lent", nvmectl_complete_lent(&controller, 1, 10, guest, 2, 0, NULL, 0, &wanted, &answer), NVMESGL_NOT_LENT);
-    holds("what is wanted", wanted.slba == 5 && wanted.blocks == 1 && wanted.opcode == WRITE);
+    holds("what is wanted", wanted.slba == 5 && wanted.blocks == 1 && wanted.opcode == OPCODE_WRITE);
     want("too short", nvmectl_bytes(&controller, 1, 10, longer, BLOCK - 1, &answer), NVMESGL_TOO_SHORT);
     holds("how many they are", answer.bytes == BLOCK && all(longer, 2, BLOCK));
     want("no such command", nvmectl_bytes(&controller, 1, 11, longer, sizeof longer, &answer), NVMESGL_NO_JOB);
@@ -231,7 +214,7 @@ static void other_calls(void) {
 static void failing_disk(void) {
     nvmectl_job job;
     memset(data, 9, sizeof data);
-    submit(WRITE, 11, 100, 2, 0);
+    submit(OPCODE_WRITE, 11, 100, 2, 0);
     want("fetch", fetch(), NVMESGL_DONE);
     walk(11);
     failing = 1;
@@ -239,7 +222,7 @@ static void failing_disk(void) {
     want("which is there still", nvmectl_command(&controller, 1, 11, &job), NVMESGL_DONE);
     want("again", complete(11), NVMESGL_DONE);
     holds("a Write", reap(11) == 0);
-    submit(COMPARE, 12, 100, 2, 0);
+    submit(OPCODE_COMPARE, 12, 100, 2, 0);
     want("fetch", fetch(), NVMESGL_DONE);
     walk(12);
     failing = 1;
@@ -247,7 +230,7 @@ static void failing_disk(void) {
     want("again", complete(12), NVMESGL_DONE);
     holds("a Compare", reap(12) == 0);
     memset(data, 0, sizeof data);
-    submit(READ, 13, 100, 2, 0);
+    submit(OPCODE_READ, 13, 100, 2, 0);
     failing = 1;
     want("a Read that the disk fails", fetch(), NVMESGL_DISK);
     want("which is not fetched", nvmectl_command(&controller, 1, 13, &job), NVMESGL_NO_JOB);
@@ -257,13 +240,13 @@ static void failing_disk(void) {
 
 /* The guest writes another entry at each read: the last blocks that were read are not those that are wanted. */
 static void changing_guest(void) {
-    submit(READ, 14, 1, 1, 0);
+    submit(OPCODE_READ, 14, 1, 1, 0);
     changing = 1;
     want("an entry that is changed once", fetch(), NVMESGL_DONE);
     walk(14);
     want("complete", complete(14), NVMESGL_DONE);
     holds("a Read", reap(14) == 0);
-    submit(READ, 15, 1, 1, 0);
+    submit(OPCODE_READ, 15, 1, 1, 0);
     changing = 1000;
     want("an entry that is always changed", fetch(), NVMESGL_NOT_LENT);
     changing = 0;
@@ -274,9 +257,9 @@ static void changing_guest(void) {
 /* A Write whose completion finds no room at first. */
 static void full_ring(void) {
     uint8_t block[BLOCK];
-    for (uint16_t cid = 16; cid < 19; cid++) submit(READ, cid, cid, 1, 0), serve();
+    for (uint16_t cid = 16; cid < 19; cid++) submit(OPCODE_READ, cid, cid, 1, 0), serve();
     memset(data, 5, BLOCK);
-    submit(WRITE, 19, 1000, 1, 0);
+    submit(OPCODE_WRITE, 19, 1000, 1, 0);
     want("fetch", fetch(), NVMESGL_DONE);
     walk(19);
     want("a full ring", complete(19), NVMESGL_FULL);
@@ -295,18 +278,18 @@ static const uint64_t starts[WINDOWS] = {2000, 65536, UINT64_C(0x3FFFFFF0), UINT
 static uint8_t model[WINDOWS][WINDOW * BLOCK];
 
 static void arbitrary(uint16_t cid) {
-    static const unsigned opcodes[] = {WRITE, READ, COMPARE};
+    static const unsigned opcodes[] = {OPCODE_WRITE, OPCODE_READ, OPCODE_COMPARE};
     unsigned opcode = opcodes[below(3)], w = below(WINDOWS), blocks = 1 + below(MOST), at = below(WINDOW - MOST + 1), len = BLOCK * blocks;
     uint8_t *here = model[w] + BLOCK * at;
-    int same = opcode == COMPARE && below(2) == 0;
+    int same = opcode == OPCODE_COMPARE && below(2) == 0;
     for (unsigned i = 0; i < len; i++) data[i] = same ? here[i] : (uint8_t)below(256);
-    int differs = opcode == COMPARE && memcmp(data, here, len) != 0;
+    int differs = opcode == OPCODE_COMPARE && memcmp(data, here, len) != 0;
     if (below(16) == 0) failing = 1 + below(3);
     submit(opcode, cid, starts[w] + at, blocks, below(2) == 0 ? 0 : 1 + below(len - 1));
     serve();
-    if (opcode == WRITE) memcpy(here, data, len);
+    if (opcode == OPCODE_WRITE) memcpy(here, data, len);
     holds("how it ended", reap(cid) == (differs ? DIFFERS : 0));
-    holds("its bytes", opcode == COMPARE || memcmp(data, here, len) == 0);
+    holds("its bytes", opcode == OPCODE_COMPARE || memcmp(data, here, len) == 0);
     commands++;
 }
 

@@ -1,13 +1,9 @@
 /* A controller in a device: no malloc, and all memory in static arrays. The host's side is written by hand: a Write of two blocks by a list of two
  * segments, and a Read of the same blocks by another list. */
+#include "entry.h"
 #include "nvmectl.h"
 
-#include <stdio.h>
-#include <string.h>
-
 enum { PAGE = 4096, BYTES = 1024, SUBMISSIONS = 2 * PAGE, COMPLETIONS = 3 * PAGE, SEGMENT = 4 * PAGE, LAST_SEGMENT = 5 * PAGE };
-enum { DATA_BLOCK = 0, A_SEGMENT = 2, THE_LAST_SEGMENT = 3 };
-enum { OPCODE_WRITE = 1, OPCODE_READ = 2 };
 
 /* The controller's memory, and the memory that it shares with the host. */
 static uint8_t heap[128 * 1024];
@@ -19,34 +15,11 @@ static const nvmectl_queue queues[2] = {{0, 1}, {2, 3}};
 static nvmectl controller = NVMECTL_CLOSED;
 static uint16_t slot;
 
-static int told(const char *call, uint32_t code) {
-    if (code != NVMESGL_DONE) printf("%s: %s\n", call, nvmesgl_text(code));
-    return code == NVMESGL_DONE;
-}
-
-static void put(uint8_t *at, uint64_t value, int bytes) {
-    for (int i = 0; i < bytes; i++) at[i] = (uint8_t)(value >> 8 * i);
-}
-
-/* A descriptor of a scatter-gather list (NVM Express Base Specification 2.0, section 4.1.2). */
-static void describe(uint8_t *at, unsigned type, uint64_t address, uint32_t length) {
-    memset(at, 0, 16);
-    put(at, address, 8);
-    put(at + 8, length, 4);
-    at[15] = (uint8_t)(type << 4);
-}
-
 /* An entry of queue 1, for the two blocks from block 5 on. The list begins with the descriptor in it. */
 static void submit(uint8_t opcode, uint16_t cid, unsigned type, uint64_t address, uint32_t length) {
     uint8_t *entry = pool + SUBMISSIONS + 64 * slot;
-    memset(entry, 0, 64);
-    entry[0] = opcode;
-    entry[1] = 0x40; /* its data by a scatter-gather list */
-    put(entry + 2, cid, 2);
-    put(entry + 4, 1, 4); /* the namespace */
+    write_entry(entry, opcode, cid, 5, 2);
     describe(entry + 24, type, address, length);
-    put(entry + 40, 5, 8);
-    put(entry + 48, 2 - 1, 2);
 }
 
 /* Rings, lets the controller do all that it can, and looks at the completion. */

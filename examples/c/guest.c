@@ -1,13 +1,9 @@
 /* A controller for an emulator: the guest has memory in two regions, one of them above 4 GiB. The guest's rings and lists lie low, and its data high. It writes
  * two blocks and reads them again; then it asks for data at an address where it has no memory, and its command ends with Data Transfer Error. */
+#include "entry.h"
 #include "nvmectl.h"
 
-#include <stdio.h>
-#include <string.h>
-
 enum { PAGE = 4096, BYTES = 1024, SUBMISSIONS = 2 * PAGE, COMPLETIONS = 3 * PAGE, SEGMENT = 4 * PAGE };
-enum { DATA_BLOCK = 0, THE_LAST_SEGMENT = 3 };
-enum { OPCODE_WRITE = 1, OPCODE_READ = 2 };
 
 /* The guest's memory. An emulator maps it; here it is two arrays. */
 #define HIGH UINT64_C(0x100000000)
@@ -20,36 +16,13 @@ static const nvmectl_queue queues[2] = {{0, 1}, {2, 3}};
 static nvmectl controller = NVMECTL_CLOSED;
 static uint16_t slot;
 
-static int told(const char *call, uint32_t code) {
-    if (code != NVMESGL_DONE) printf("%s: %s\n", call, nvmesgl_text(code));
-    return code == NVMESGL_DONE;
-}
-
 /* The guest's driver ------------------------------------------------------------------------------------------------ */
-
-static void put(uint8_t *at, uint64_t value, int bytes) {
-    for (int i = 0; i < bytes; i++) at[i] = (uint8_t)(value >> 8 * i);
-}
-
-/* A descriptor of a scatter-gather list (NVM Express Base Specification 2.0, section 4.1.2). */
-static void describe(uint8_t *at, unsigned type, uint64_t address, uint32_t length) {
-    memset(at, 0, 16);
-    put(at, address, 8);
-    put(at + 8, length, 4);
-    at[15] = (uint8_t)(type << 4);
-}
 
 /* An entry of queue 1, for the two blocks from block 5 on, and the doorbell. */
 static int submit(uint8_t opcode, uint16_t cid, unsigned type, uint64_t address, uint32_t length) {
     uint8_t *entry = low + SUBMISSIONS + 64 * slot;
-    memset(entry, 0, 64);
-    entry[0] = opcode;
-    entry[1] = 0x40; /* its data by a scatter-gather list */
-    put(entry + 2, cid, 2);
-    put(entry + 4, 1, 4); /* the namespace */
+    write_entry(entry, opcode, cid, 5, 2);
     describe(entry + 24, type, address, length);
-    put(entry + 40, 5, 8);
-    put(entry + 48, 2 - 1, 2);
     slot++;
     return told("tail", nvmectl_tail(&controller, 1, slot));
 }
