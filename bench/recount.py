@@ -98,7 +98,7 @@ class World:
         return found
 
     def lowest(self, count, but=()):
-        """The lowest run of so many free pages, if there is one, and else the lowest ones (section 8); and whether it is a run."""
+        """The lowest run of this many free pages, if there is one, and else the lowest ones (section 8); and whether it is a run."""
         free = [page for page, owner in enumerate(self.owners) if owner == "free" and page not in but]
         for at in range(len(free) - count + 1):
             if count and free[at + count - 1] == free[at] + count - 1:
@@ -339,7 +339,7 @@ class World:
         self.lines += 1
 
     def hear(self):
-        """Reads what a step and the looks behind it are answered."""
+        """Reads what a step and the looks after it are answered."""
         said = b""
         while not (said.endswith(b"\n") and said.startswith(b"counts ", said.rfind(b"\n", 0, -1) + 1)):
             part = os.read(self.back, 65_536)

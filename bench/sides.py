@@ -47,7 +47,7 @@ class Request:
         self.block_size = 1_024 if chance.up_to(127) == 0 else 512
 
     def split(self, chance, left):
-        """Pieces of so many bytes, five at most, and rarely one more: offset and length, without an offset a bucket."""
+        """Pieces of this many bytes, five at most, and rarely one more: offset and length, without an offset a bucket."""
         pieces = []
         while left > 0:
             most = left if len(pieces) == 4 else min(left, chance.up_to(1_500) + 1) if chance.in_sixteen(8) else min(left, 4_096)

@@ -15,12 +15,12 @@ uint32_t nvmectl_fetch_disk(nvmectl *controller, uint16_t q, const nvmectl_regio
     /* Between two calls the guest may write another entry there, which wants other blocks. */
     for (int tries = 0; code == NVMESGL_NOT_LENT && tries < TRIES; tries++) {
         size_t len = (size_t)BLOCK * wanted.blocks;
-        struct tried got = rattle_alloc(len, 1);
+        struct tried got = nvmesgl_heap_alloc(len, 1);
         if (!got.ok) return NVMESGL_MEMORY;
         uint64_t slba = wanted.slba;
         code = read_blocks(disk, &wanted, got.p);
         if (code == NVMESGL_DONE) code = nvmectl_fetch_lent(controller, q, regions, region_count, slba, got.p, len, &wanted, answer);
-        rattle_dealloc(got.p);
+        nvmesgl_heap_dealloc(got.p);
     }
     return code;
 }
@@ -40,11 +40,11 @@ uint32_t nvmectl_complete_disk(nvmectl *controller, uint16_t q, uint16_t cid, co
     uint32_t code = nvmectl_complete_lent(controller, q, cid, regions, region_count, 0, NULL, 0, &wanted, answer);
     if (code != NVMESGL_NOT_LENT) return code;
     size_t len = (size_t)BLOCK * wanted.blocks;
-    struct tried got = rattle_alloc(len, 1);
+    struct tried got = nvmesgl_heap_alloc(len, 1);
     if (!got.ok) return NVMESGL_MEMORY;
     uint64_t slba = wanted.slba;
     code = move_blocks(controller, q, cid, disk, &wanted, got.p, len);
     if (code == NVMESGL_DONE) code = nvmectl_complete_lent(controller, q, cid, regions, region_count, slba, got.p, len, &wanted, answer);
-    rattle_dealloc(got.p);
+    nvmesgl_heap_dealloc(got.p);
     return code;
 }

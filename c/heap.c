@@ -128,7 +128,7 @@ void nvmehost_close_at(nvmehost *host, nvmehost_memory *memory) {
     if (host != NULL && host->mark == 0) unlink_memory(memory);
 }
 
-struct tried rattle_alloc(size_t n, size_t align) {
+struct tried nvmesgl_heap_alloc(size_t n, size_t align) {
     if (opening != NULL && n == 4096 && align == 1 && opening->used < opening->pages)
         return (struct tried){true, (unsigned char *)opening->at + (size_t)4096 * opening->used++};
     if (array_from != NULL) return array_alloc(n);
@@ -140,22 +140,22 @@ struct tried rattle_alloc(size_t n, size_t align) {
 #endif
 }
 
-struct tried rattle_realloc(void *p, size_t kept, size_t n, size_t align) {
+struct tried nvmesgl_heap_realloc(void *p, size_t kept, size_t n, size_t align) {
 #ifndef NVMESGL_ARRAY_ALONE
     if (array_from == NULL) {
         void *moved = realloc(p, n == 0 ? align : n);
         return moved == NULL ? (struct tried){false, nothing} : (struct tried){true, moved};
     }
 #endif
-    struct tried got = rattle_alloc(n, align);
+    struct tried got = nvmesgl_heap_alloc(n, align);
     if (got.ok) {
         memcpy(got.p, p, kept < n ? kept : n);
-        rattle_dealloc(p);
+        nvmesgl_heap_dealloc(p);
     }
     return got;
 }
 
-void rattle_dealloc(void *p) {
+void nvmesgl_heap_dealloc(void *p) {
     if (in_memory(p)) return;
     if (in_array(p)) {
         array_dealloc(p);

@@ -36,9 +36,9 @@ int main(void) {
         size_t n = below(4) == 0 ? below(5000) : below(200);
         struct tried got;
         if (blocks[i].p == NULL) {
-            got = rattle_alloc(n, 16);
+            got = nvmesgl_heap_alloc(n, 16);
         } else if (below(3) == 0) {
-            got = rattle_realloc(blocks[i].p, blocks[i].n, n, 16);
+            got = nvmesgl_heap_realloc(blocks[i].p, blocks[i].n, n, 16);
             if (got.ok) {
                 if (n < blocks[i].n) blocks[i].n = n;
                 blocks[i].p = got.p;
@@ -46,7 +46,7 @@ int main(void) {
             }
         } else {
             if (!holds(i)) return 1;
-            rattle_dealloc(blocks[i].p);
+            nvmesgl_heap_dealloc(blocks[i].p);
             blocks[i].p = NULL;
             continue;
         }
@@ -63,12 +63,12 @@ int main(void) {
         memset(got.p, blocks[i].mark, n);
     }
     for (int i = 0; i < BLOCKS; i++)
-        if (blocks[i].p != NULL) rattle_dealloc(blocks[i].p);
+        if (blocks[i].p != NULL) nvmesgl_heap_dealloc(blocks[i].p);
     /* All is one free run again. */
-    struct tried all = rattle_alloc(ROOM - 64, 16);
+    struct tried all = nvmesgl_heap_alloc(ROOM - 64, 16);
     if (!all.ok || refused == 0) return 1;
-    rattle_dealloc(all.p);
+    nvmesgl_heap_dealloc(all.p);
     nvmesgl_heap_array(room, 8);
-    if (rattle_alloc(1, 16).ok) return 1;
+    if (nvmesgl_heap_alloc(1, 16).ok) return 1;
     return 0;
 }

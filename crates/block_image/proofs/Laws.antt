@@ -3,7 +3,7 @@ use Rattle.std.proofs.Common.{◌≡◌, ℕ, ◌+◌, ◌*◌, ◌≤◌, List,
 use Rattle.std.proofs.lemmas.{List.{take-append-drop, take-append-le, drop-append-le, length-take-le, length-drop}, Slice.drop-append-drop}
 use Rattle.block_image.specs.Blocks.{PutKeepsOthers}
 
--- what lies in front of a seam does not see what stands behind it
+-- what lies before a seam does not see what stands after it
 slice-append :
     (front rest : List ℕ) (at n : ℕ) → at + n ≤ length front → take n (drop at (front ++ rest)) ≡ take n (drop at front)
 slice-append front rest at n within =

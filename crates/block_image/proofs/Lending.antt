@@ -4,7 +4,7 @@ use Rattle.std.proofs.lemmas.List.{take-append-drop, take-append-le, length-take
 use Rattle.std.proofs.lemmas.Bool.Decides.{nat_tests}
 use Rattle.block_image.specs.Blocks.{IsPart, block_count, blocks_at, with_blocks, shown, is_lent}
 
--- blocks that are lent begin behind the first of them, and end with the last
+-- blocks that are lent begin after the first of them, and end with the last
 pub record LiesIn (first : ℕ) (lent : List ℕ) (slba n : ℕ) : Type 0 where
   pub low : first ≤ slba
   pub inside : slba + n ≤ first + block_count lent

@@ -5,7 +5,7 @@ use Rattle.std.specs.Prelude.{◌≡◌, ℕ, ◌+◌, ◌*◌, ◌/◌, ◌%◌
 abbrev pub most_blocks : ℕ
 most_blocks = 65536
 
--- one block or more, at most so many, and each of them whole
+-- one block or more, at most this many, and each of them whole
 pub record IsImage (bytes : List ℕ) : Type 0 where
   pub whole : length bytes % 512 ≡ 0
   pub some : 0 < length bytes
@@ -53,15 +53,15 @@ PutKeepsLength =
     (image : List ℕ) (slba : ℕ) (new : List ℕ) →
     IsInRange image slba new → length (with_blocks image slba new) ≡ length image
 
--- The bytes of a namespace of so many blocks, of which some are lent, from a first one on: zeros in place of those that are not.
+-- The bytes of a namespace of this many blocks, of which some are lent, from a first one on: zeros in place of those that are not.
 abbrev pub shown : ℕ → ℕ → List ℕ → List ℕ
 shown blocks first lent = with_blocks (replicate (512 * blocks) 0) first lent
 
--- whether so many blocks from slba on are all lent
+-- whether this many blocks from slba on are all lent
 abbrev pub is_lent : ℕ → List ℕ → ℕ → ℕ → Bool
 is_lent first lent slba n = not (nat_lt slba first) && not (nat_lt (first + block_count lent) (slba + n))
 
--- what can be lent of a namespace of so many blocks: whole blocks, inside it
+-- what can be lent of a namespace of this many blocks: whole blocks, inside it
 pub record IsPart (blocks first : ℕ) (lent : List ℕ) : Type 0 where
   pub some : 0 < blocks
   pub whole : length lent % 512 ≡ 0

@@ -15,7 +15,7 @@ pub trait Blocks {
     // the bytes of all blocks, one block after another
     ghost bytes: { Self → List ℕ };
 
-    // whether so many blocks from a first one on can be read and written now
+    // whether this many blocks from a first one on can be read and written now
     ghost at_hand: { Self → ℕ → ℕ → Bool };
 
     // where they lie, in numbers that no call changes
@@ -27,11 +27,11 @@ pub trait Blocks {
         ensures whole { length (bytes self.now) % 512 ≡ 0 }
         ensures some { 0 < length (bytes self.now) };
 
-    /// Whether so many blocks from `slba` on are at hand.
+    /// Whether this many blocks from `slba` on are at hand.
     fn has(&self, slba: u64, count: u32) -> bool
         ensures { result ≡ at_hand self.now slba count };
 
-    /// A copy of so many blocks, from `slba` on.
+    /// A copy of this many blocks, from `slba` on.
     ///
     /// # Errors
     ///

@@ -28,7 +28,7 @@ fn put(into: &mut [u8], at: usize, bytes: &[u8])
 }
 
 impl<'a> Lent<'a> {
-    /// The blocks of a buffer, from `first` on, of a namespace of so many blocks. `None` where the namespace has no block, the last block of the
+    /// The blocks of a buffer, from `first` on, of a namespace of this many blocks. `None` where the namespace has no block, the last block of the
     /// buffer is cut short, or the namespace ends before them.
     pub fn new(blocks: u32, first: u64, bytes: &'a mut [u8]) -> Option<Lent<'a>>
         ensures part { IsSome result ↔ IsPart blocks first bytes.old }

@@ -70,7 +70,7 @@ impl<A: Allocator> Model for Image<A> {
 }
 
 impl<A: Allocator> Image<A> {
-    /// An image of so many blocks, each byte zero.
+    /// An image of this many blocks, each byte zero.
     pub fn zeroed(alloc: A, blocks: u32) -> Result<Self, ImageError>
         ensures zero { IfOk result (λ image. image ≡ replicate (512 * blocks) 0) }
         ensures image { IfOk result (λ image. IsImage image) }
@@ -104,7 +104,7 @@ impl<A: Allocator> Image<A> {
         (self.bytes.len() / BLOCK_SIZE) as u32
     }
 
-    /// The bytes of so many blocks, from `slba` on.
+    /// The bytes of this many blocks, from `slba` on.
     pub fn blocks_from(&self, slba: u64, count: u32) -> &[u8]
         requires { slba + count ≤ block_count self.now }
         ensures { result.now ≡ blocks_at self.now slba count }

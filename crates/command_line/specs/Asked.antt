@@ -3,7 +3,7 @@ use Rattle.std.specs.{Borrow.Bor, Option.option_map_or}
 use Rattle.std.specs.Prelude.{◌≤◌, ◌&&◌, ⊤, ℕ, Bool, List, [], ◌∷◌, Option, Some, None, codes, is_some, option_map, option_and_then, unwrap_or, map, not, true, false, nat_le, if◌then◌else◌}
 use Rattle.std.specs.Str.{bytes_eq}
 use Rattle.clap.specs.Words.{Kinds, Row, Text, all_of, fault_of, first_of, one_of, subcommand_of}
-use Rattle.command_line.specs.{Commands.nvmesgl, Units.{number, seconds_within, size_within}, declared.{arguments.{CommandLine.CommandLine, Options.Options, Testing.Testing}, load.{Amounts.Amounts, Names.Names}, serving.Serving.Serving, threads.Threading.Threading}}
+use Rattle.command_line.specs.{Commands.nvmesgl, Units.{number, seconds_within, size_within}, declared.{arguments.{CommandLine.CommandLine, CommandOptions.CommandOptions, Testing.Testing}, load.{Amounts.Amounts, Names.Names}, serving.Serving.Serving, threads.Threading.Threading}}
 use Rattle.host_core.specs.declared.config.Config.{Config}
 use Rattle.script_cli.specs.{Loads.FitsLoad, Patterns.{format_named, pattern_named}, declared.workload.{Load.Load, OutputFormat.OutputFormat, Pattern.Pattern}}
 use Rattle.command_line.specs.declared.arguments.CommandLine.TheVariants as line
@@ -324,7 +324,7 @@ asked words = unless_at_fault (fault_of nvmesgl words) (asked_by (subcommand_of 
 abbrev pub path_of : Option (Bor Text) → Option Text
 path_of path = option_map (λ p. p.now) path
 
-abbrev pub given_of : Options → Given
+abbrev pub given_of : CommandOptions → Given
 given_of options = record { config = options.config; blocks = options.blocks; image = path_of options.image; script = path_of options.script; save = path_of options.save; strict = options.strict }
 
 abbrev pub tested_of : Testing → Tested

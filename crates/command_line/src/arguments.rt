@@ -28,7 +28,7 @@ const NO_COMMAND: &str = "a command is wanted";
 
 /// The options that `steps`, `threads`, `load`, `shell` and `draw` have.
 #[derive(Clone, Copy, Debug, PartialEq, Eq)]
-pub struct Options<'a> {
+pub struct CommandOptions<'a> {
     /// What the world is opened with.
     pub config: Config,
     /// The blocks of an image of zeros.
@@ -60,26 +60,26 @@ pub struct Testing<'a> {
 #[derive(Drop)]
 pub enum CommandLine<'a> {
     /// To play a script of steps.
-    Steps(Options<'a>),
+    Steps(CommandOptions<'a>),
     /// To play a script of steps, and to tell what each moved, and whether as JSON.
-    Traced(Options<'a>, bool),
+    Traced(CommandOptions<'a>, bool),
     /// To run the jobs of submitters in threads.
-    Threads(Options<'a>, Threading, Serving),
+    Threads(CommandOptions<'a>, Threading, Serving),
     /// The same, and to tell how each job ended as JSON.
-    ThreadObjects(Options<'a>, Threading, Serving),
+    ThreadObjects(CommandOptions<'a>, Threading, Serving),
     /// To make jobs, and to run them in threads.
-    Load(Options<'a>, Load<'a>, Serving),
-    /// To tell the faults of a script of steps, by its path as in [`Options`].
+    Load(CommandOptions<'a>, Load<'a>, Serving),
+    /// To tell the faults of a script of steps, by its path as in [`CommandOptions`].
     Check(Option<&'a str>),
     /// To tell the faults of a script of jobs, by its path, for this many submitters, 1 to 16.
     CheckJobs(Option<&'a str>, u16),
     /// To test transcripts.
     Test(Testing<'a>),
     /// To answer one line after the other, and whether each step tells what it moved.
-    Shell(Options<'a>, bool),
+    Shell(CommandOptions<'a>, bool),
     /// To draw a script of steps.
-    Draw(Options<'a>),
-    /// To explain a command, by the path of its case as in [`Options`], and whether as JSON.
+    Draw(CommandOptions<'a>),
+    /// To explain a command, by the path of its case as in [`CommandOptions`], and whether as JSON.
     Explain(Option<&'a str>, bool),
     /// To decode bytes: what they are to be, and their digits; and whether as JSON.
     Show(Vec<&'a str>, bool),
@@ -87,12 +87,12 @@ pub enum CommandLine<'a> {
     Grammar,
 }
 
-impl<'a> Options<'a> {
+impl<'a> CommandOptions<'a> {
     /// The options that were given to a command.
-    pub(crate) fn of(given: &ArgMatches<'a>) -> Options<'a>
+    pub(crate) fn of(given: &ArgMatches<'a>) -> CommandOptions<'a>
         ensures { given_of result ≡ given_in (rows_of (found_of given.now)) }
     {
-        Options {
+        CommandOptions {
             config: Config {
                 pages: PAGES.value(given),
                 queues: QUEUES.value(given),
@@ -151,7 +151,7 @@ fn steps_line<'a>(given: &ArgMatches<'a>) -> CommandLine<'a>
     ensures asked { asked_of result ≡ steps_by (rows_of (found_of given.now)) }
     ensures fits { FitsLine result }
 {
-    let options = Options::of(given);
+    let options = CommandOptions::of(given);
     if flag(given, "json") {
         CommandLine::Traced(options, true)
     } else if flag(given, "trace") {
@@ -167,7 +167,7 @@ fn test_line<'a>(alloc: Global, given: &ArgMatches<'a>) -> Result<CommandLine<'a
     ensures fits { IfOk result FitsLine }
     ensures refused { IfErr result (λ e. kind_of e ≡ OutOfMemory) }
 {
-    let options = Options::of(given);
+    let options = CommandOptions::of(given);
     Ok(CommandLine::Test(Testing {
         config: options.config,
         blocks: options.blocks,
@@ -256,10 +256,10 @@ fn shown_line<'a>(
     ensures refused { IfErr result (λ e. (kind_of e ≡ OutOfMemory) ⊎ (shown_of_name name.now (rows_of (found_of given.now)) ≡ None)) }
 {
     if name == "shell" {
-        return Ok(CommandLine::Shell(Options::of(given), flag(given, "trace")));
+        return Ok(CommandLine::Shell(CommandOptions::of(given), flag(given, "trace")));
     }
     if name == "draw" {
-        return Ok(CommandLine::Draw(Options::of(given)));
+        return Ok(CommandLine::Draw(CommandOptions::of(given)));
     }
     if name == "explain" {
         return Ok(CommandLine::Explain(script(given), flag(given, "json")));

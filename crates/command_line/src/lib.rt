@@ -15,7 +15,7 @@ mod threads;
 mod units;
 pub mod worked;
 
-pub use arguments::{CommandLine, Options, Testing, words};
+pub use arguments::{CommandLine, CommandOptions, Testing, words};
 pub use commands::VERSION;
 pub use sentences::sentence;
 pub use serving::Serving;

@@ -8,7 +8,7 @@ ghost use Rattle.command_line.specs.Asked.{amounts_in, are_load_numbers, asked_o
 ghost use Rattle.command_line.specs.Units.{seconds_within as spec_seconds_within, size_within as spec_size_within};
 ghost use Rattle.script_cli.specs.Loads.{FitsLoad, FitsSize};
 
-use crate::arguments::{CommandLine, Options, amount, flag, out_of_range};
+use crate::arguments::{CommandLine, CommandOptions, amount, flag, out_of_range};
 use crate::commands::{LOG_LIMIT, Number, told};
 use crate::load_options::{DEPTH, READS, SEED, SUBMITTERS, USUAL_COUNT, load_command};
 use crate::serving::{Serving, nobody, who_serves};
@@ -286,7 +286,7 @@ pub(crate) fn load_line<'a>(alloc: Global, given: &ArgMatches<'a>) -> Result<Com
     ensures refused { IfErr result (λ e. (kind_of e ≡ OutOfMemory) ⊎ (load_by (rows_of (found_of given.now)) ≡ None)) }
 {
     match load_of(given) {
-        Ok((load, serving)) => Ok(CommandLine::Load(Options::of(given), load, serving)),
+        Ok((load, serving)) => Ok(CommandLine::Load(CommandOptions::of(given), load, serving)),
         Err(wrong) => Err(at_fault(alloc, given, wrong)?),
     }
 }

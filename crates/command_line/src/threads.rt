@@ -5,7 +5,7 @@ ghost use Rattle.clap.specs.Words.{found_of, kind_of, rows_of};
 ghost use Rattle.clap.specs.declared.error.kind.ErrorKind.TheVariants.{OutOfMemory};
 ghost use Rattle.command_line.specs.Asked.{asked_of, FitsLine, FitsThreading, is_threading, jobs_by, threads_by};
 
-use crate::arguments::{CommandLine, Options, amount, flag, out_of_range};
+use crate::arguments::{CommandLine, CommandOptions, amount, flag, out_of_range};
 use crate::commands::{DEPTH, LOG_LIMIT, Number, SUBMITTERS, threads_command, told};
 use crate::serving::{Serving, nobody, who_serves};
 use clap::error::ErrorKind;
@@ -67,7 +67,7 @@ fn jobs_line<'a>(given: &ArgMatches<'a>, threading: Threading, serving: Serving)
     ensures asked { asked_of result ≡ jobs_by (rows_of (found_of given.now)) threading serving }
     ensures fits { FitsLine result }
 {
-    let options = Options::of(given);
+    let options = CommandOptions::of(given);
     if flag(given, "json") {
         CommandLine::ThreadObjects(options, threading, serving)
     } else {

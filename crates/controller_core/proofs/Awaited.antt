@@ -1,13 +1,13 @@
 -- Which command an Abort waits for, and what a fetch keeps of that.
-use Rattle.controller_core.specs.declared.refusal.Refusal.TheVariants as refusal
+use Rattle.controller_core.specs.declared.refusal.ControllerRefusal.TheVariants as refusal
 use Rattle.controller_core.proofs.Lists.{length-change, change_at, count-cons, one, all_set}
 use Rattle.controller_core.proofs.Rows.{named, some_name, cid_of}
 use Rattle.controller_core.specs.Posting.{completion_by, memory_posted, page_posted, with_posted, post_refusal_at}
 use Rattle.controller_core.specs.Completing.{without_command, command_refusal, complete_refusal, is_abort_of, waits_among}
 use Rattle.controller_core.specs.Contents.{change, Contents, IsController, AreCommands, FitsCommand, FitsWork, is_command, entry_of_work, FetchedCommand, AreAwaited, IsNamedBy, entry_of, FitsVerdict as ContentsFitsVerdict}
 use Rattle.controller_core.specs.{Fetching.{IsBegun, PostsConflict, LooksAt, begun, live_side}}
-use Rattle.controller_core.specs.{Looks.name_at, Managing.{with_taken, command_of}, declared.command.Work.TheVariants.{Io}}
-use Rattle.controller_core.specs.declared.{queue.ControllerQueue.ControllerQueue, refusal.Refusal.Refusal}
+use Rattle.controller_core.specs.{Looks.name_at, Managing.{with_taken, command_of}, declared.command.FetchedWork.TheVariants.{Io}}
+use Rattle.controller_core.specs.declared.{queue.ControllerQueue.ControllerQueue, refusal.ControllerRefusal.ControllerRefusal}
 use Rattle.std.proofs.Common.{◌≡◌, ℕ, ◌<◌, ◌==◌, ◌&&◌, ◌++◌, ◌∷◌, [], not, Bool, true, false, Option, Some, Result, Ok, Err, cond, List, length, find, slice_set, get_or, if◌then◌else◌, refl, ap, ap₂, sym, ◌∙◌, arith, subst, eqb-true, true≢false, None, zero, suc, ◌||◌, IfSome, map, slice_get, inl, inr, ◌+◌, nat_lt, is_none, is_some}
 use Rattle.std.{proofs.lemmas.{Bool.{and_parts, cases_Bool, or_parts, Decides.nat_tests}, Option.{none-some, slice_get_read}}, specs.{Borrow.Bor, List.{AllByRecursion, list_any, count_by}}}
 use Rattle.std.specs.{Option.{option_map, option_map_or, option_copied}, Result.{OnOk, OnErr}}
@@ -81,7 +81,7 @@ none_mapped f alike (x ∷ xs) q cid none = elim (cases_Bool (is_command q cid x
   | inr h ↦ rw (named_alike q cid x (f x) (alike x), h) (none_mapped f alike xs q cid (rw h at none))
 ]
 
--- what is found behind others
+-- what is found after others
 found_last : (commands : List FetchedCommand) (k : FetchedCommand) (q cid : ℕ) → find (is_command q cid) commands ≡ None → is_command q cid k ≡ true → entry_of (commands ++ k ∷ []) q cid ≡ Some (entry_of_work k.work)
 found_last [] k q cid none own = rw own refl
 found_last (x ∷ xs) k q cid none own = elim (cases_Bool (is_command q cid x)) [
@@ -89,7 +89,7 @@ found_last (x ∷ xs) k q cid none own = elim (cases_Bool (is_command q cid x)) 
   | inr h ↦ rw h (found_last xs k q cid (rw h at none) own)
 ]
 
--- A change of all commands that leaves names and entries, and whose new waits are named by a command that is put behind them
+-- A change of all commands that leaves names and entries, and whose new waits are named by a command that is put after them
 pub awaited_changed : (f : FetchedCommand → FetchedCommand) (commands : List FetchedCommand) (own : FetchedCommand) → ((k : FetchedCommand) → IsAlike k (f k))
     → ((k : FetchedCommand) → Awaits (map f commands ++ own ∷ []) k → Awaits (map f commands ++ own ∷ []) (f k)) → own.waiting_abort ≡ None → AreAwaited commands → AreAwaited (map f commands ++ own ∷ [])
 awaited_changed f commands own alike changes none are =
@@ -132,7 +132,7 @@ awaited_set commands i x y at alike same are =
 
 -- A completion
 
--- no command stays behind that waits for what is taken out
+-- no command that is left waits for what is taken out
 abbrev IsLet : ℕ → ℕ → FetchedCommand → Type 0
 IsLet q cid k = IfSome k.waiting_abort (λ abort. (x : FetchedCommand) → is_command 0 abort x ≡ true → is_command q cid x ≡ false)
 
@@ -355,7 +355,7 @@ on_err (Err e) p = p
 pub count_kept : (c : Contents) (queues : List ControllerQueue) → IsController c → length queues ≡ length c.queues → IsController (record { queues = queues; commands = c.commands; image = c.image })
 count_kept c queues is e = record { commands = subst (λ (n : ℕ). AreCommands (block_count c.image) n c.commands) (sym e) is.commands; awaited = is.awaited }
 
-pub posts_conflict : (result : Result (Unit {0}) Refusal) (queues : List ControllerQueue) (q i cid : ℕ) (m m' : Memory) (reached reached' : List ℕ) (queue queue' : ControllerQueue)
+pub posts_conflict : (result : Result (Unit {0}) ControllerRefusal) (queues : List ControllerQueue) (q i cid : ℕ) (m m' : Memory) (reached reached' : List ℕ) (queue queue' : ControllerQueue)
     → i ≡ q → q < length queues → queue ≡ get_or queues i queue → OnOk result (queue' ≡ with_posted (with_taken queue))
     → OnOk result (m' ≡ memory_posted m queue.controller (completion_by q cid COMMAND_ID_CONFLICT 0 (with_taken queue).controller)) → OnOk result (reached' ≡ reached ++ page_posted queue.controller ∷ [])
     → OnOk result (PostsConflict queues q cid m reached (slice_set queues i queue') m' reached')

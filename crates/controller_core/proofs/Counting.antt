@@ -1,10 +1,10 @@
 -- Commands that are changed where they stand, how many each queue has, and loops over them.
-use Rattle.controller_core.specs.declared.refusal.Refusal.{Refusal}
-use Rattle.controller_core.specs.declared.refusal.Refusal.TheVariants as refusal
+use Rattle.controller_core.specs.declared.refusal.ControllerRefusal.{ControllerRefusal}
+use Rattle.controller_core.specs.declared.refusal.ControllerRefusal.TheVariants as refusal
 use Rattle.controller_core.proofs.{Lists.{count-cons, count_set, one, swept, length-swept}, Managing.stopped_entry}
 use Rattle.controller_core.proofs.Rows.{commands_put, distinct_with, place_is, place_named, named_with, cid_of, Rows, some_name, commands_of, stands_somewhere, value_found, named}
 use Rattle.controller_core.{proofs.Awaited.count-more}
-use Rattle.controller_core.specs.{Contents.{FetchedCommand, change, entry_of_work, is_command, Work, Contents}, Looks.{name_at, IsStuck}}
+use Rattle.controller_core.specs.{Contents.{FetchedCommand, change, entry_of_work, is_command, FetchedWork, Contents}, Looks.{name_at, IsStuck}}
 use Rattle.controller_core.specs.{Managing.{aborted, stopped_with_queue, stopped_work}, Tables.{AreNamed, AreCounted, Outstanding, count_of}}
 use Rattle.controller_core.specs.Walking.{WalksOne, WalksAmong, ended_refusal, refusal_among}
 use Rattle.std.proofs.Common.{◌≡◌, ℕ, zero, suc, ◌<◌, ◌==◌, not, Bool, true, false, Option, Some, None, List, [], ◌∷◌, ◌++◌, length, map, find, slice_get, slice_set, if◌then◌else◌, refl, ap, ap₂, sym, ◌∙◌, arith, subst, eqb-true, true≢false, inl, inr, ◌≤◌, IfSome, ◌+◌, ◌-◌, ◌||◌, get_or, replicate, drop, below_more, Result, Ok, Err, OnErr, IfOk}
@@ -15,7 +15,7 @@ use Rattle.controller_walk.specs.declared.walk.WalkState.{WalkState}
 use Rattle.entry_codec.specs.declared.{status.TheConstants.Status.{ABORTED_SQ_DELETION, ABORT_REQUESTED}, submission.SubEntry.SubEntry}
 use Rattle.page_memory.{proofs.Lists.some_is, specs.Memory.{Memory, TouchesMore}}
 
--- so many queues and these commands
+-- this many queues and these commands
 abbrev pub outstanding : ℕ → List FetchedCommand → Outstanding
 outstanding queues list = record { queues = queues; list = list }
 
@@ -36,7 +36,7 @@ changed_named rows q cid k k' n d has alike =
 one_alike : (k k' : FetchedCommand) (m m' : Memory) (reached reached' : List ℕ) (outcome : WalkState) → WalksOne k m reached outcome k' m' reached' → IsNamedAlike k k'
 one_alike k k' m m' reached reached' outcome w = (
   ap (λ (x : FetchedCommand). x.q) w.leaves,
-  ap cid_of w.leaves ∙ ap (λ (e : SubEntry). e.cid) w.unit.entry ∙ sym (ap (λ (work : Work). (entry_of_work work).cid) w.work),
+  ap cid_of w.leaves ∙ ap (λ (e : SubEntry). e.cid) w.unit.entry ∙ sym (ap (λ (work : FetchedWork). (entry_of_work work).cid) w.work),
 )
 
 walks_among : (rows : Rows) (q cid : ℕ) (k k' : FetchedCommand) (m m' : Memory) (reached reached' : List ℕ) (outcome : WalkState) → AreNamed rows → value_at rows q cid ≡ Some k → WalksOne k m reached outcome k' m' reached'
@@ -77,18 +77,18 @@ unchanged (row ∷ rows) q cid k has = by_row (is_at row q cid) has (unchanged r
 
 -- What the walk of a command leaves of all commands, done or refused.
 module _ (rows : Rows) (q cid : ℕ) (k k' : FetchedCommand) (m m' : Memory) (reached reached' : List ℕ) (n : AreNamed rows) (has : value_at rows q cid ≡ Some k) where
-  abbrev WalkedOrSame : Result WalkState Refusal → Type 0
+  abbrev WalkedOrSame : Result WalkState ControllerRefusal → Type 0
   WalkedOrSame r = OnErr r ((k' ≡ k) × (m' ≡ m) × (reached' ≡ reached)) × IfOk r (λ outcome. WalksOne k m reached outcome k' m' reached')
 
-  pub walked_alike : (r : Result WalkState Refusal) → WalkedOrSame r → IsNamedAlike k k'
+  pub walked_alike : (r : Result WalkState ControllerRefusal) → WalkedOrSame r → IsNamedAlike k k'
   walked_alike (Ok outcome) (_, w) = one_alike k k' m m' reached reached' outcome w
   walked_alike (Err why) (same, _) = (ap (λ (x : FetchedCommand). x.q) same.0, ap cid_of same.0)
 
-  pub walked_among : (r : Result WalkState Refusal) → WalkedOrSame r → IfOk r (λ outcome. WalksAmong (commands_of rows) q cid m reached outcome (commands_of (with_value rows q cid k')) m' reached')
+  pub walked_among : (r : Result WalkState ControllerRefusal) → WalkedOrSame r → IfOk r (λ outcome. WalksAmong (commands_of rows) q cid m reached outcome (commands_of (with_value rows q cid k')) m' reached')
   walked_among (Ok outcome) (_, w) = walks_among rows q cid k k' m m' reached reached' outcome n has w
   walked_among (Err why) _ = tt
 
-  pub refused_same : (queues : ℕ) (r : Result WalkState Refusal) → WalkedOrSame r
+  pub refused_same : (queues : ℕ) (r : Result WalkState ControllerRefusal) → WalkedOrSame r
       → OnErr r ((outstanding queues (commands_of (with_value rows q cid k')) ≡ outstanding queues (commands_of rows)) × (m' ≡ m) × (reached' ≡ reached))
   refused_same queues (Ok outcome) _ = tt
   refused_same queues (Err why) (same, _) = (ap (λ x. outstanding queues (commands_of (with_value rows q cid x))) same.0 ∙ ap (λ (x : Rows). outstanding queues (commands_of x)) (unchanged rows q cid k has), same.1, same.2)
@@ -319,7 +319,7 @@ left q zero (y ∷ ys) x at =
     count-cons (λ (k : FetchedCommand). k.q == q) y ys ∙ ap (λ (k : FetchedCommand). one (k.q == q) + count_of ys q) same
 left q (suc i) (y ∷ ys) x at = left q i ys x at
 
--- how many of the queue are left behind the next
+-- how many of the queue are left after the next
 pub left_next : (q i : ℕ) (xs : List FetchedCommand) (x : FetchedCommand) → slice_get xs i ≡ Some x → count_of (drop i xs) q ≡ one (x.q == q) + count_of (drop (i + 1) xs) q
 left_next q i xs x at =
     let more : suc i ≡ i + 1 = omega arith in

@@ -5,20 +5,20 @@ use Rattle.std.specs.Option.{option_and_then, option_map, option_map_or}
 use Rattle.entry_codec.specs.declared.{submission.SubEntry.SubEntry}
 use Rattle.page_memory.specs.Memory.{Memory}
 use Rattle.controller_core.specs.Completing.{command_refusal, waits_among}
-use Rattle.controller_core.specs.Contents.{Contents, FetchedCommand, Work, entry_of_work, is_command, verdict_of_work}
+use Rattle.controller_core.specs.Contents.{Contents, FetchedCommand, FetchedWork, entry_of_work, is_command, verdict_of_work}
 use Rattle.controller_core.specs.Lending.{command_cause, unready, command_lacks, work_lacks, end_refusal, entry_lacked, lent_refusal, not_lent, NoneLacksAtHand, RefusesAsImage}
 use Rattle.controller_core.specs.Fetching.{is_known, look_refusal, rung_entry}
 use Rattle.controller_core.specs.Posting.{post_refusal_at}
-use Rattle.controller_core.specs.declared.{command.Work.TheVariants.{Io, Admin}, refusal.Refusal.Refusal, lending.LentRefusal.LentRefusal}
+use Rattle.controller_core.specs.declared.{command.FetchedWork.TheVariants.{Io, Admin}, refusal.ControllerRefusal.ControllerRefusal, lending.LentRefusal.LentRefusal}
 use Rattle.controller_core.specs.declared.lending.LentRefusal.TheVariants.{Refused}
-use Rattle.controller_core.specs.declared.refusal.Refusal.TheVariants as refusal
+use Rattle.controller_core.specs.declared.refusal.ControllerRefusal.TheVariants as refusal
 
 -- the command that was found
 pub found_lacks : (at_hand : ℕ → ℕ → Bool) (commands : List FetchedCommand) (q cid : ℕ) (k : FetchedCommand) → find (is_command q cid) commands ≡ Some k → command_lacks at_hand commands q cid ≡ work_lacks at_hand k.work
 found_lacks at_hand commands q cid k found = ap (λ (o : Option FetchedCommand). option_map_or (λ k. work_lacks at_hand k.work) o false) found
 
 -- over an image none is lacking
-image_work : (work : Work) → work_lacks (λ slba n. true) work ≡ false
+image_work : (work : FetchedWork) → work_lacks (λ slba n. true) work ≡ false
 image_work (Io job) = refl
 image_work (Admin entry status dw0) = refl
 
@@ -37,13 +37,13 @@ ready_by true b x none = cc
 ready_by false true x none = cc
 ready_by false false x none = refl
 
-unready_by : (a b : Bool) (x : Option LentRefusal) (why : Refusal) → (if a then Some refusal.Walking else if b then Some refusal.Waits else None) ≡ Some why
+unready_by : (a b : Bool) (x : Option LentRefusal) (why : ControllerRefusal) → (if a then Some refusal.Walking else if b then Some refusal.Waits else None) ≡ Some why
     → (if a then Some (Refused refusal.Walking) else if b then Some (Refused refusal.Waits) else x) ≡ Some (Refused why)
 unready_by true b x why is = cc
 unready_by false true x why is = cc
 unready_by false false x why is = cc
 
-pub lent_unready : (at_hand : ℕ → ℕ → Bool) (c : Contents) (m : Memory) (q cid : ℕ) (why : Refusal) → Some why ≡ unready c q cid → lent_refusal at_hand c m q cid ≡ Some (Refused why)
+pub lent_unready : (at_hand : ℕ → ℕ → Bool) (c : Contents) (m : Memory) (q cid : ℕ) (why : ControllerRefusal) → Some why ≡ unready c q cid → lent_refusal at_hand c m q cid ≡ Some (Refused why)
 lent_unready at_hand c m q cid why is = by_command (find (is_command q cid) c.commands) (sym is)
   where
     by_command : (o : Option FetchedCommand) → option_map_or (command_cause c.commands) o (Some refusal.NoJob) ≡ Some why → option_map_or (end_refusal at_hand c m q) o (Some (Refused refusal.NoJob)) ≡ Some (Refused why)
@@ -62,7 +62,7 @@ lent_ready at_hand c m q cid k is found =
 
 -- Where all blocks are at hand
 
-as_image : (a b lacks : Bool) (e : SubEntry) (x : Option Refusal) → lacks ≡ false
+as_image : (a b lacks : Bool) (e : SubEntry) (x : Option ControllerRefusal) → lacks ≡ false
     → (if a then Some (Refused refusal.Walking) else if b then Some (Refused refusal.Waits) else if lacks then Some (not_lent e) else option_map (λ why. Refused why) x)
     ≡ option_map (λ why. Refused why) (if a then Some refusal.Walking else if b then Some refusal.Waits else x)
 as_image true b lacks e x none = refl

@@ -13,8 +13,8 @@ use Rattle.controller_core.proofs.Awaited.{begun_fits, looked_there}
 use Rattle.controller_core.specs.Contents.{Contents, IsController, AreCommands, FitsWork, is_command}
 use Rattle.controller_core.specs.Fetching.{LooksAt, Begins, IsBegun, FetchesTo, Fetches, Takes, TakesIn, RefusedBy, entry_refusal, is_known, live_side, look_refusal, rung_entry, begun}
 use Rattle.controller_core.specs.Lending.{with_image, IsRefusedBehindLook, entry_lacked, fetch_lacked, not_lent}
-use Rattle.controller_core.specs.declared.{command.Work.TheVariants.Io, queue.ControllerQueue.ControllerQueue, refusal.Refusal.Refusal}
-use Rattle.controller_core.specs.declared.refusal.Refusal.TheVariants as refusal
+use Rattle.controller_core.specs.declared.{command.FetchedWork.TheVariants.Io, queue.ControllerQueue.ControllerQueue, refusal.ControllerRefusal.ControllerRefusal}
+use Rattle.controller_core.specs.declared.refusal.ControllerRefusal.TheVariants as refusal
 
 -- an entry that is taken at once
 pub taken_fetch : (pages pages' : ℕ) (c c' : Contents) (m m' m'' : Memory) (q : ℕ) (e : SubEntry) (reached looked reached' : List ℕ) → LooksAt c m reached q e looked → m' ≡ m → pages' ≡ pages
@@ -48,10 +48,10 @@ begun_fetch pages c c1 c' m m' m'' q e reached looked reached' job image looks e
     }
 
 -- and one that is refused
-pub refused_fetch : (c c' : Contents) (m m' m'' : Memory) (q : ℕ) (e : SubEntry) (reached looked reached' : List ℕ) (why : Refusal) → None ≡ look_refusal c m q → LooksAt c m reached q e looked → m' ≡ m
+pub refused_fetch : (c c' : Contents) (m m' m'' : Memory) (q : ℕ) (e : SubEntry) (reached looked reached' : List ℕ) (why : ControllerRefusal) → None ≡ look_refusal c m q → LooksAt c m reached q e looked → m' ≡ m
     → IsRefusedBehindLook c m' q e why → c' ≡ c → m'' ≡ m' → reached' ≡ looked → RefusedBy (look_refusal c m q) c m reached q why reached' × (c' ≡ c) × (m'' ≡ m)
 refused_fetch c c' m m' m'' q e reached looked reached' why none looks em cause ec em' er = (
-  subst (λ (o : Option Refusal). RefusedBy o c m reached q why reached') none
+  subst (λ (o : Option ControllerRefusal). RefusedBy o c m reached q why reached') none
       (record { entry = e; looks = subst (LooksAt c m reached q e) (sym er) looks; cause = subst (λ (n : Memory). IsRefusedBehindLook c n q e why) em cause }),
   ec,
   em' ∙ em,
@@ -62,10 +62,10 @@ pub memory_refused : (c : Contents) (m : Memory) (q : ℕ) (e : SubEntry) → (i
 memory_refused c m q e none = let parts = or_parts (is_known c q e) (q == 0) none in rw (parts.0) refl
 
 -- the same of the answer that it is
-pub err_fetch : (r : Result ℕ Refusal) (pages : ℕ) (c c' : Contents) (m m' : Memory) (q : ℕ) (reached reached' : List ℕ) (why : Refusal) → IsErr r → IsErrAnd r (λ given. given ≡ why)
+pub err_fetch : (r : Result ℕ ControllerRefusal) (pages : ℕ) (c c' : Contents) (m m' : Memory) (q : ℕ) (reached reached' : List ℕ) (why : ControllerRefusal) → IsErr r → IsErrAnd r (λ given. given ≡ why)
     → RefusedBy (look_refusal c m q) c m reached q why reached' × (c' ≡ c) × (m' ≡ m) → Fetches c pages m reached q r c' m' reached'
 err_fetch (Ok cid) pages c c' m m' q reached reached' why err is refused = absurd (true≢false (sym err))
-err_fetch (Err given) pages c c' m m' q reached reached' why err is refused = subst (λ (w : Refusal). Fetches c pages m reached q (Err w) c' m' reached') (sym is) refused
+err_fetch (Err given) pages c c' m m' q reached reached' why err is refused = subst (λ (w : ControllerRefusal). Fetches c pages m reached q (Err w) c' m' reached') (sym is) refused
 
 -- Over blocks that are lent
 
@@ -87,12 +87,12 @@ takes_over false c c' image pages q e m m' looked reached' at_once takes =
 rung_is : (c : Contents) (m : Memory) (reached : List ℕ) (q : ℕ) (e : SubEntry) (reached' : List ℕ) → LooksAt c m reached q e reached' → rung_entry c m q ≡ Some e
 rung_is c m reached q e reached' looks = ap (option_and_then (λ (controller : ControllerSide). entry_at m controller.sq controller.ring.head)) looks.here ∙ looks.at
 
-pub unlooked_lacks : (at_hand : ℕ → ℕ → Bool) (c : Contents) (m : Memory) (q : ℕ) (why : Refusal) → Some why ≡ look_refusal c m q → None ≡ fetch_lacked at_hand c m q
-unlooked_lacks at_hand c m q why is = ap (λ (o : Option Refusal). if is_some o then None else option_and_then (entry_lacked at_hand c q) (rung_entry c m q)) is
+pub unlooked_lacks : (at_hand : ℕ → ℕ → Bool) (c : Contents) (m : Memory) (q : ℕ) (why : ControllerRefusal) → Some why ≡ look_refusal c m q → None ≡ fetch_lacked at_hand c m q
+unlooked_lacks at_hand c m q why is = ap (λ (o : Option ControllerRefusal). if is_some o then None else option_and_then (entry_lacked at_hand c q) (rung_entry c m q)) is
 
 pub looked_lacks : (at_hand : ℕ → ℕ → Bool) (c : Contents) (m : Memory) (reached : List ℕ) (q : ℕ) (e : SubEntry) (reached' : List ℕ) → None ≡ look_refusal c m q → LooksAt c m reached q e reached' → fetch_lacked at_hand c m q ≡ entry_lacked at_hand c q e
 looked_lacks at_hand c m reached q e reached' none looks =
-    sym (ap (λ (o : Option Refusal). if is_some o then None else option_and_then (entry_lacked at_hand c q) (rung_entry c m q)) none) ∙ ap (option_and_then (entry_lacked at_hand c q)) (rung_is c m reached q e reached' looks)
+    sym (ap (λ (o : Option ControllerRefusal). if is_some o then None else option_and_then (entry_lacked at_hand c q) (rung_entry c m q)) none) ∙ ap (option_and_then (entry_lacked at_hand c q)) (rung_is c m reached q e reached' looks)
 
 pub at_once_lacks : (at_hand : ℕ → ℕ → Bool) (c : Contents) (m : Memory) (reached : List ℕ) (q : ℕ) (e : SubEntry) (reached' : List ℕ) → None ≡ look_refusal c m q → LooksAt c m reached q e reached' → (is_known c q e || (q == 0)) ≡ true
     → None ≡ fetch_lacked at_hand c m q

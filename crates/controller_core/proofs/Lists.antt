@@ -1,14 +1,14 @@
 -- Lists of which one member is changed or taken out; and each call goes one way.
-use Rattle.controller_core.specs.declared.refusal.Refusal.TheVariants as refusal
+use Rattle.controller_core.specs.declared.refusal.ControllerRefusal.TheVariants as refusal
 use Rattle.std.proofs.Common.{◌≡◌, ℕ, zero, suc, ◌+◌, ◌<◌, ◌≤◌, Bool, true, false, cond, Some, List, [], ◌∷◌, ◌++◌, length, map, filter, drop, get_or, slice_get, slice_set, refl, ap, sym, ◌∙◌, arith, subst, ◌==◌, take, Option, None, if◌then◌else◌, ap₂, eqb-true}
 use Rattle.std.{proofs.lemmas.List.{map-append, map-set, Sums.sum_by-cons}, specs.List.{AllByRecursion, count_by}}
 use Rattle.std.specs.Option.{option_map_or}
 use Rattle.controller_core.specs.{Posting.{completion_by, memory_posted, page_posted}, Completing.{completed, status_of_end}}
-use Rattle.controller_core.specs.Contents.{change, Contents, FetchedCommand, Work, dw0_of_work, is_command}
+use Rattle.controller_core.specs.Contents.{change, Contents, FetchedCommand, FetchedWork, dw0_of_work, is_command}
 use Rattle.controller_core.specs.Fetching.{LooksAt, Begins, IsBegun, TakesIn, Takes, RefusedBy, RefusedEntry, is_known, entry_refusal, side_refusal, look_refusal, begun}
 use Rattle.controller_core.specs.Laws.{AreAlike, unplaced_command, WalksOneWay, CompletesOneWay, FetchesOneWay, RefusesOneWay, ServedUnlessMemory}
-use Rattle.controller_core.specs.{Managing.{command_of, with_taken}, Walking.{DoesUnit, stepped}, declared.command.Work.TheVariants.Io}
-use Rattle.controller_core.specs.declared.{queue.ControllerQueue.ControllerQueue, refusal.Refusal.Refusal}
+use Rattle.controller_core.specs.{Managing.{command_of, with_taken}, Walking.{DoesUnit, stepped}, declared.command.FetchedWork.TheVariants.Io}
+use Rattle.controller_core.specs.declared.{queue.ControllerQueue.ControllerQueue, refusal.ControllerRefusal.ControllerRefusal}
 use Rattle.controller_walk.specs.{Units.{Act, Stays, Reads, Moves, Course, Closes, Does}, Walks.{Acts, DoesFirst, LeavesRest}}
 use Rattle.controller_walk.specs.declared.walk.WalkState.{WalkState}
 use Rattle.entry_codec.specs.declared.{status.TheConstants.Status.COMMAND_ID_CONFLICT, submission.SubEntry.SubEntry}
@@ -89,7 +89,7 @@ count_set p (z ∷ xs) zero x y at e =
     count-cons p y xs ∙ ap (λ (b : Bool). one b + count_by p xs) (e ∙ ap p (sym same)) ∙ sym (count-cons p z xs)
 count_set p (z ∷ xs) (suc i) x y at e = count-cons p z (slice_set xs i y) ∙ ap (λ (n : ℕ). one (p z) + n) (count_set p xs i x y at e) ∙ sym (count-cons p z xs)
 
--- A list of which each member is changed in turn: that of which so many members are changed
+-- A list of which each member is changed in turn: that of which this many members are changed
 abbrev pub swept : {A : Type 0} → (A → A) → ℕ → List A → List A
 swept f zero xs = xs
 swept f (suc i) [] = []
@@ -166,7 +166,7 @@ one_walk c q cid m s o o' x x' n n' t t' is w w' =
     same_place p c.commands a.place a'.place a.command a'.command (is.commands.differ q cid) a.at (found_is p c.commands a.command a.found) a'.at (found_is p c.commands a'.command a'.found) in
     let work = one_job m s a.job a.job' a'.job' o o' n n' t t' a.unit u in
     let command : unplaced_command (stepped a.job' a.command) ≡ unplaced_command (stepped a'.job' a'.command) =
-    ap (λ (y : FetchedCommand). unplaced_command (stepped a.job' y)) k ∙ ap (λ (y : Work). record a'.command { units_done = a'.command.units_done + 1; work = y }) work in (
+    ap (λ (y : FetchedCommand). unplaced_command (stepped a.job' y)) k ∙ ap (λ (y : FetchedWork). record a'.command { units_done = a'.command.units_done + 1; work = y }) work in (
       r.0,
       record {
         queues = w.queues ∙ sym w'.queues;
@@ -242,13 +242,13 @@ one_fetch c pages m s q cid cid' x x' n n' t t' w w' =
     let r = one_take (is_known c q w'.entry) c pages q w'.entry m w'.looked x x' n n' t t' (takes_same c pages q w.entry w'.entry m w.looked w'.looked x n t l.0 l.1 w.takes) w'.takes in
     (w.named ∙ ap (λ (e : SubEntry). e.cid) l.0 ∙ sym w'.named, r.0, r.1, r.2)
 
-abbrev cause_of : Contents → Memory → ℕ → SubEntry → Option Refusal
+abbrev cause_of : Contents → Memory → ℕ → SubEntry → Option ControllerRefusal
 cause_of c m q e = if is_known c q e then entry_refusal c m q e else Some refusal.Memory
 
 pub one_refusal : RefusesOneWay
 one_refusal c m r q why why' t t' = by_refusal (look_refusal c m q)
   where
-    by_refusal : (o : Option Refusal) → RefusedBy o c m r q why t → RefusedBy o c m r q why' t' → (why ≡ why') × (t ≡ t')
+    by_refusal : (o : Option ControllerRefusal) → RefusedBy o c m r q why t → RefusedBy o c m r q why' t' → (why ≡ why') × (t ≡ t')
     by_refusal (Some cause) h g = (h.0 ∙ sym g.0, h.1 ∙ sym g.1)
     by_refusal None h g =
         let l = one_look c m r q h.entry g.entry t t' h.looks g.looks in
@@ -266,7 +266,7 @@ no_refusal c m r q e t l =
 
 pub served_unless_memory : ServedUnlessMemory
 served_unless_memory c pages m s q cid why x n t t' w h =
-    entry (subst (λ (o : Option Refusal). RefusedBy o c m s q why t') (no_refusal c m s q w.entry w.looked w.looks) h)
+    entry (subst (λ (o : Option ControllerRefusal). RefusedBy o c m s q why t') (no_refusal c m s q w.entry w.looked w.looks) h)
   where
     by : (b : Bool) → entry_refusal c m q w.entry ≡ None → (if b then entry_refusal c m q w.entry else Some refusal.Memory) ≡ Some why → why ≡ refusal.Memory
     by true room cause = cc

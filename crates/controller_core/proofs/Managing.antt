@@ -2,9 +2,9 @@
 use Rattle.controller_core.proofs.{Lists.{count-cons, one, length-change, all_set, count_set}, Rows.{commands-without, length-end}}
 use Rattle.controller_core.proofs.Awaited.{Awaits, IsAlike, awaited_changed, awaited_more, awaits_alike, named_last, none_mapped, awaited_set, awaited_without, completes_alone, commands-with, none_found}
 use Rattle.controller_core.specs.{Posting.{Posts, with_posted}, Completing.{complete_refusal, queues_of_end, without_command}}
-use Rattle.controller_core.specs.Contents.{FitsVerdict, Contents, IsController, IsNamedBy, AreAwaited, AreCommands, FetchedCommand, Work, FitsWork, FitsCommand, change, entry_of_work, is_command, is_deletion}
+use Rattle.controller_core.specs.Contents.{FitsVerdict, Contents, IsController, IsNamedBy, AreAwaited, AreCommands, FetchedCommand, FetchedWork, FitsWork, FitsCommand, change, entry_of_work, is_command, is_deletion}
 use Rattle.controller_core.specs.Managing.{with_taken, command_of, admin_work, stopped_work, aborted, stopped_with_queue, stopping, without_completion, with_completion, with_submission, NamesPages, commands_after, queues_after, verdict_for, view_for, managed}
-use Rattle.controller_core.specs.{Walking.{WalksAmong, stepped, ended_refusal, refusal_among}, declared.command.Work.TheVariants.{Io, Admin}}
+use Rattle.controller_core.specs.{Walking.{WalksAmong, stepped, ended_refusal, refusal_among}, declared.command.FetchedWork.TheVariants.{Io, Admin}}
 use Rattle.controller_core.specs.declared.queue.ControllerQueue.{ControllerQueue}
 use Rattle.std.proofs.Common.{◌≡◌, ℕ, ◌+◌, ◌/◌, ◌%◌, ◌<◌, ◌≤◌, ◌==◌, ◌&&◌, ◌||◌, not, nat_lt, Bool, true, false, Option, Some, None, if◌then◌else◌, refl, arith, eqb-true, suc, zero, ◌-◌, min, nat_eq, cond, is_some, List, ◌^◌, is_none, [], ◌∷◌, ◌++◌, find, length, map, ap, ap₂, sym, ◌∙◌, subst, IfSome, Result, Ok, Err, OnErr, IfOk}
 use Rattle.std.{proofs.lemmas.{Bool.{and_parts, and_right, eq-eqb, not-false, not-true, or_parts, true≢false, Decides.nat_tests}, List.map-append}, specs.{List.count_by, Option.{option_map_or, option_map}}}
@@ -29,8 +29,8 @@ use Rattle.sgl_descriptor.specs.{Spelling.descriptor_of, declared.Descriptor.{De
 use Rattle.sgl_descriptor.specs.declared.Direction.{Direction}
 use Rattle.block_image.specs.Blocks.{block_count}
 use Rattle.controller_walk.specs.declared.progress.State as progress
-use Rattle.controller_core.specs.{Tables.Outstanding, declared.refusal.Refusal.Refusal}
-use Rattle.controller_core.specs.declared.refusal.Refusal.TheVariants as refusal
+use Rattle.controller_core.specs.{Tables.Outstanding, declared.refusal.ControllerRefusal.ControllerRefusal}
+use Rattle.controller_core.specs.declared.refusal.ControllerRefusal.TheVariants as refusal
 
 -- What each verdict comes from.
 
@@ -244,11 +244,11 @@ record CommandStays (blocks : ℕ) (k k' : FetchedCommand) : Type 0 where
   pub entry : entry_of_work k'.work ≡ entry_of_work k.work
   pub fits : FitsWork blocks k.q k.units_done k.work → FitsWork blocks k'.q k'.units_done k'.work
 
-pub stopped_entry : (st : Status) (work : Work) → entry_of_work (stopped_work st work) ≡ entry_of_work work
+pub stopped_entry : (st : Status) (work : FetchedWork) → entry_of_work (stopped_work st work) ≡ entry_of_work work
 stopped_entry st (Io job) = if_by (λ (j : JobContents). j.entry ≡ job.entry) (is_none job.verdict) (record job { verdict = Some st }) job (λ h. refl) (λ h. refl)
 stopped_entry st (Admin entry status dw0) = refl
 
-stopped_fits : (blocks q done : ℕ) (st : Status) (work : Work) → st.sct < 8 → FitsWork blocks q done work → FitsWork blocks q done (stopped_work st work)
+stopped_fits : (blocks q done : ℕ) (st : Status) (work : FetchedWork) → st.sct < 8 → FitsWork blocks q done work → FitsWork blocks q done (stopped_work st work)
 stopped_fits blocks q done st (Io job) small fits =
     if_by (λ (j : JobContents). FitsWork blocks q done (Io j)) (is_none job.verdict) (record job { verdict = Some st }) job (λ h. (fits.0, fits.1, small, fits.3)) (λ h. fits)
 stopped_fits blocks q done st (Admin entry status dw0) small fits = fits
@@ -269,7 +269,7 @@ count-mapped : {A : Type 0} (p : A → Bool) (f : A → A) → ((x : A) → p (f
 count-mapped p f same [] = refl
 count-mapped p f same (x ∷ xs) = count-cons p (f x) (map f xs) ∙ ap₂ (λ (b : Bool) (n : ℕ). one b + n) (same x) (count-mapped p f same xs) ∙ sym (count-cons p x xs)
 
--- what holds of the commands behind a verdict
+-- what holds of the commands after a verdict
 record CommandsStay (blocks queues : ℕ) (commands commands' : List FetchedCommand) : Type 0 where
   pub are : AreCommands blocks queues commands → AreCommands blocks queues commands'
   pub count : (r d : ℕ) → count_by (is_command r d) commands' ≡ count_by (is_command r d) commands
@@ -406,7 +406,7 @@ own_spared e (StopQueue q) commands k s is =
     by false = refl
 own_spared e v commands k s is = refl
 
--- The controller behind an admin entry whose command was put first, and its verdict carried out then.
+-- The controller after an admin entry whose command was put first, and its verdict carried out then.
 pub managed_is : (pages : ℕ) (c : Contents) (e : SubEntry) (w : AdminVerdict) (took queues : List ControllerQueue) (before after : List FetchedCommand) (k : FetchedCommand)
     → w ≡ verdict_for pages c e → took ≡ change 0 with_taken c.queues → queues ≡ queues_after w took
     → k ≡ command_of 0 (admin_work e w) → before ≡ c.commands ++ k ∷ [] → after ≡ commands_after e.cid w before
@@ -422,7 +422,7 @@ managed_is pages c e w took queues before after k ew et eq ek eb ea =
 pub managed_sound : (pages : ℕ) (c c' : Contents) (e : SubEntry) → IsController c → 0 < length c.queues → is_some (find (is_command 0 e.cid) c.commands) ≡ false → c' ≡ managed pages e c → IsController c'
 managed_sound pages c c' e is there free same = subst IsController (sym same) (managed_kept pages c e is there free)
 
--- What always holds of a controller holds behind each call.
+-- What always holds of a controller holds after each call.
 
 -- A doorbell changes no command.
 pub rung_kept : (c : Contents) (q : ℕ) (f : ControllerQueue → ControllerQueue) → IsController c → IsController (record c { queues = change q f c.queues })
@@ -439,14 +439,14 @@ pub walked_kept : (blocks queues : ℕ) (commands : List FetchedCommand) (q cid 
 walked_kept blocks queues commands q cid m reached outcome commands' m' reached' are h =
     let k = h.command in
     let was : FitsCommand blocks queues k = all-at (FitsCommand blocks queues) commands h.place k h.at are.each in
-    let fits : FitsWork blocks k.q k.units_done (Io h.job) = subst (λ (work : Work). FitsWork blocks k.q k.units_done work) h.work was.1 in
+    let fits : FitsWork blocks k.q k.units_done (Io h.job) = subst (λ (work : FetchedWork). FitsWork blocks k.q k.units_done work) h.work was.1 in
     let verdict : FitsVerdict h.job'.verdict =
     subst FitsVerdict (sym h.unit.verdict) (outcome_fits (job_course m h.job) _ m m' _ _ reached reached' outcome _ (walk_ends_fit m h.job.walk) h.unit.does h.unit.leaves) in
     subst (AreCommands blocks queues) (sym h.leaves) (record {
       each = all_set (FitsCommand blocks queues) commands h.place (stepped h.job' k) are.each (was.0, (fits.0, h.unit.blocks ∙ fits.1, verdict, omega (arith, fits.3, h.unit.fewer)));
       differ = λ r d. subst (λ (n : ℕ). n < 2)
           (sym (count_set (is_command r d) commands h.place k (stepped h.job' k) h.at
-          (ap (λ (e : SubEntry). (k.q == r) && (e.cid == d)) h.unit.entry ∙ sym (ap (λ (work : Work). (k.q == r) && ((entry_of_work work).cid == d)) h.work))))
+          (ap (λ (e : SubEntry). (k.q == r) && (e.cid == d)) h.unit.entry ∙ sym (ap (λ (work : FetchedWork). (k.q == r) && ((entry_of_work work).cid == d)) h.work))))
           (are.differ r d);
     })
 
@@ -457,15 +457,15 @@ awaited_kept commands q cid m reached outcome commands' m' reached' are h =
     subst AreAwaited (sym h.leaves) (awaited_set commands h.place h.command (stepped h.job' h.command) h.at (refl, h.unit.entry ∙ sym (ap entry_of_work h.work)) refl are)
 
 -- A controller stays one over a walk, done or refused.
-pub walked_sound : (c : Contents) (q cid : ℕ) (m m' : Memory) (reached reached' : List ℕ) (old new : Outstanding) (r : Result WalkState Refusal) → old.list ≡ c.commands → IsController c
+pub walked_sound : (c : Contents) (q cid : ℕ) (m m' : Memory) (reached reached' : List ℕ) (old new : Outstanding) (r : Result WalkState ControllerRefusal) → old.list ≡ c.commands → IsController c
     → OnErr r ((new ≡ old) × (m' ≡ m) × (reached' ≡ reached)) → IfOk r (λ outcome. WalksAmong old.list q cid m reached outcome new.list m' reached') → IsController (record c { commands = new.list })
 walked_sound c q cid m m' reached reached' old new (Ok outcome) is sound same walks =
     let among = subst (λ (list : List FetchedCommand). WalksAmong list q cid m reached outcome new.list m' reached') is walks in
     record { commands = walked_kept _ _ _ q cid m reached outcome new.list m' reached' sound.commands among; awaited = awaited_kept _ q cid m reached outcome new.list m' reached' sound.awaited among }
 walked_sound c q cid m m' reached reached' old new (Err why) is sound same walks = subst (λ (list : List FetchedCommand). IsController (record c { commands = list })) (sym (ap (λ (o : Outstanding). o.list) same.0 ∙ is)) sound
 
--- A walk that goes on has done so many units at most.
-few_done : (blocks q done : ℕ) (work : Work) (units : ℕ) (waiting : Option ℕ) → FitsWork blocks q done work → ended_refusal (record { q = q; units_done = units; waiting_abort = waiting; work = work }) ≡ None → done ≤ 12545
+-- A walk that goes on has done this many units at most.
+few_done : (blocks q done : ℕ) (work : FetchedWork) (units : ℕ) (waiting : Option ℕ) → FitsWork blocks q done work → ended_refusal (record { q = q; units_done = units; waiting_abort = waiting; work = work }) ≡ None → done ≤ 12545
 few_done blocks q done (Io job) units waiting fits going = omega (arith, fits.3)
 few_done blocks q done (Admin entry status dw0) units waiting fits going = cc
 
@@ -480,7 +480,7 @@ few_walked c q cid is accepted = by_command (find (is_command q cid) c.commands)
         few_done (block_count c.image) k.q k.units_done k.work k.units_done k.waiting_abort fits.1 going
 
 -- A completion takes out no Abort that waits.
-pub length_finished : (queues queues' queues'' : List ControllerQueue) (work : Work) (q cid : ℕ) (st : Status) (dw0 : ℕ) (m m' : Memory) (reached reached' : List ℕ)
+pub length_finished : (queues queues' queues'' : List ControllerQueue) (work : FetchedWork) (q cid : ℕ) (st : Status) (dw0 : ℕ) (m m' : Memory) (reached reached' : List ℕ)
     → Posts queues q cid st dw0 m reached queues' m' reached' → queues'' ≡ queues_of_end work queues' → length queues'' ≡ length queues
 length_finished queues queues' queues'' work q cid st dw0 m m' reached reached' posts eq =
     ap length eq ∙ (length-end work queues' ∙ (ap length posts.queues_posted ∙ length-change q with_posted queues))

@@ -1,5 +1,5 @@
 -- The queues of a controller that opens, and that is reset.
-use Rattle.controller_core.specs.declared.refusal.Refusal.TheVariants as refusal
+use Rattle.controller_core.specs.declared.refusal.ControllerRefusal.TheVariants as refusal
 use Rattle.std.proofs.Common.{◌≡◌, ℕ, zero, suc, ◌+◌, ◌<◌, ◌≤◌, List, [], ◌∷◌, ◌++◌, length, take, get_or, refl, ap, ap₂, sym, ◌∙◌, arith, Bool, true, false, if◌then◌else◌, Some, None, slice_get, slice_set}
 use Rattle.std.specs.{List.AllByRecursion, Option.option_map_or, Prelude.nat_lt}
 use Rattle.controller_core.specs.{Contents.{Contents, change}, Doorbells.{head_rung, with_head, with_side, with_tail}}
@@ -16,7 +16,7 @@ pub many : (n q : ℕ) (pages : List QueuePages) → length (queues_from n q pag
 many n q [] = refl
 many n q (p ∷ pages) = ap suc (many n (suc q) pages)
 
--- so many of them
+-- this many of them
 pub many_taken : (n i : ℕ) (pages : List QueuePages) → length (queues_from n 0 (take i pages)) ≤ i
 many_taken n i pages = omega (arith, many n 0 (take i pages), shorter i pages)
   where

@@ -2,11 +2,11 @@
 use Rattle.controller_core.proofs.Lists.{change-change, length-change, change_at, count-filter}
 use Rattle.controller_core.specs.Posting.{completion_by, memory_posted, page_posted, with_posted, Posts}
 use Rattle.controller_core.specs.Completing.{CompletesTo, queues_of_end, image_of_end, status_of_end, CanEnd, without_command, without_submission}
-use Rattle.controller_core.specs.Contents.{change, Contents, IsController, AreCommands, FitsCommand, FitsWork, is_command, is_deletion, entry_of_work, dw0_of_work, FetchedCommand, Work}
+use Rattle.controller_core.specs.Contents.{change, Contents, IsController, AreCommands, FitsCommand, FitsWork, is_command, is_deletion, entry_of_work, dw0_of_work, FetchedCommand, FetchedWork}
 use Rattle.controller_core.specs.{Doorbells.with_side}
 use Rattle.controller_core.specs.{Looks.{name_at}}
 use Rattle.controller_core.specs.{Tables.{AreNamed}}
-use Rattle.controller_core.specs.declared.{command.Work.TheVariants.{Io, Admin}, queue.ControllerQueue.ControllerQueue, refusal.Refusal.Refusal}
+use Rattle.controller_core.specs.declared.{command.FetchedWork.TheVariants.{Io, Admin}, queue.ControllerQueue.ControllerQueue, refusal.ControllerRefusal.ControllerRefusal}
 use Rattle.std.proofs.Common.{◌≡◌, ℕ, ◌<◌, ◌==◌, ◌&&◌, ◌++◌, ◌∷◌, [], not, Bool, true, false, Option, Some, Result, Ok, Err, cond, List, length, find, slice_set, get_or, if◌then◌else◌, refl, ap, ap₂, sym, ◌∙◌, arith, subst, eqb-true, true≢false, None, zero, suc, map, slice_get, inl, inr, is_some}
 use Rattle.std.proofs.lemmas.{Bool.{and_parts, cases_Bool, eq-eqb}}
 use Rattle.std.{proofs.lemmas.{Option.{none-some, slice_get_read}}}
@@ -27,7 +27,7 @@ use Rattle.slot_table.specs.Rows.{Row, is_at, value_at, without, with_value, wit
 
 -- How a command ends
 
-pub length-end : (work : Work) (queues : List ControllerQueue) → length (queues_of_end work queues) ≡ length queues
+pub length-end : (work : FetchedWork) (queues : List ControllerQueue) → length (queues_of_end work queues) ≡ length queues
 length-end (Io job) queues = refl
 length-end (Admin entry status dw0) queues =
     elim (is_deletion entry status) as (λ b. length (if b then change (named_queue entry) without_submission queues else queues) ≡ length queues) [
@@ -79,24 +79,24 @@ status_after_fits image e bytes (Some verdict) fits =
       | false ↦ fits
     ]
 
-pub end_fits : (image : List ℕ) (blocks q done : ℕ) (work : Work) → FitsWork blocks q done work → (status_of_end image work).sct < 8
+pub end_fits : (image : List ℕ) (blocks q done : ℕ) (work : FetchedWork) → FitsWork blocks q done work → (status_of_end image work).sct < 8
 end_fits image blocks q done (Io job) fits = status_after_fits image job.entry job.bytes job.verdict fits.2
 end_fits image blocks q done (Admin entry status dw0) fits = fits.1
 
-pub over_fits : (blocks q done : ℕ) (work : Work) → FitsWork blocks q done work → CanEnd blocks work
+pub over_fits : (blocks q done : ℕ) (work : FetchedWork) → FitsWork blocks q done work → CanEnd blocks work
 over_fits blocks q done (Io job) fits = fits.1
 over_fits blocks q done (Admin entry status dw0) fits = tt
 
 -- What it leaves
 
-pub end-posted : (work : Work) (q : ℕ) (queues : List ControllerQueue) → queues_of_end work (change q with_posted queues) ≡ change q with_posted (queues_of_end work queues)
+pub end-posted : (work : FetchedWork) (q : ℕ) (queues : List ControllerQueue) → queues_of_end work (change q with_posted queues) ≡ change q with_posted (queues_of_end work queues)
 end-posted (Io job) q queues = refl
 end-posted (Admin entry status dw0) q queues = elim (cases_Bool (is_deletion entry status)) [
   | inl deletes ↦ rw deletes (change-change (named_queue entry) q without_submission with_posted (λ queue. refl) queues)
   | inr keeps ↦ rw keeps refl
 ]
 
--- what was posted for a command at a place, and what was done for the same command behind that
+-- what was posted for a command at a place, and what was done for the same command after that
 pub finishes : (c : Contents) (m m' : Memory) (q cid : ℕ) (k k' : FetchedCommand) (queues queues' : List ControllerQueue) (commands : List FetchedCommand) (image : List ℕ) (st : Status) (dw0 : ℕ) (reached reached' : List ℕ)
     → IsFound c q cid k → IsFound c q cid k' → st ≡ status_of_end c.image k.work → dw0 ≡ dw0_of_work k.work → Posts c.queues q cid st dw0 m reached queues m' reached'
     → commands ≡ without_command q cid c.commands → queues' ≡ queues_of_end k'.work queues → image ≡ image_of_end c.image k'.work → length image ≡ length c.image → CompletesTo c q cid m reached (record { queues = queues'; commands = commands; image = image }) m' reached'
@@ -124,7 +124,7 @@ commands-without blocks queues q cid commands are = record {
 }
 
 -- A completion is posted in a queue that is there.
-pub posts_by : (result : Result (Unit {0}) Refusal) (queues : List ControllerQueue) (q i cid : ℕ) (st : Status) (dw0 : ℕ) (m m' : Memory) (reached reached' : List ℕ) (queue : ControllerQueue) (controller : ControllerSide)
+pub posts_by : (result : Result (Unit {0}) ControllerRefusal) (queues : List ControllerQueue) (q i cid : ℕ) (st : Status) (dw0 : ℕ) (m m' : Memory) (reached reached' : List ℕ) (queue : ControllerQueue) (controller : ControllerSide)
     → i ≡ q → q < length queues → queue ≡ get_or queues i queue → OnOk result (controller ≡ record queue.controller { ring = completion_posted queue.controller.entries queue.controller.ring })
     → OnOk result (IsComEntry (completion_by q cid st dw0 queue.controller)) → OnOk result (m' ≡ memory_posted m queue.controller (completion_by q cid st dw0 queue.controller)) → OnOk result (reached' ≡ reached ++ page_posted queue.controller ∷ [])
     → OnOk result (Posts queues q cid st dw0 m reached (slice_set queues i (with_side controller queue)) m' reached')

@@ -5,15 +5,15 @@ use Rattle.admin_commands.specs.Entries.{named_queue, named_command}
 use Rattle.block_image.specs.Blocks.{block_count}
 use Rattle.entry_codec.specs.declared.{status.Status.Status, submission.SubEntry.SubEntry}
 use Rattle.io_commands.specs.Jobs.{JobContents, left_of_walk}
-use Rattle.controller_core.specs.declared.{command.Work.TheVariants.{Io, Admin}, queue.ControllerQueue.ControllerQueue}
+use Rattle.controller_core.specs.declared.{command.FetchedWork.TheVariants.{Io, Admin}, queue.ControllerQueue.ControllerQueue}
 pub use Rattle.io_commands.specs.Ends.{FitsVerdict, is_deletion}
 pub use Rattle.queue_pair.specs.Members.{change}
 use Rattle.controller_core.specs.declared.command.FetchedCommand as command
-use Rattle.controller_core.specs.declared.command.Work as work
+use Rattle.controller_core.specs.declared.command.FetchedWork as work
 
 -- a fetched command as contracts see it: they say nothing of where its bytes are kept
-abbrev pub Work : Type 0
-Work = work.Work JobContents
+abbrev pub FetchedWork : Type 0
+FetchedWork = work.FetchedWork JobContents
 
 abbrev pub FetchedCommand : Type 0
 FetchedCommand = command.FetchedCommand JobContents
@@ -27,16 +27,16 @@ pub record Contents : Type 0 where
 abbrev pub contents : List ControllerQueue → List FetchedCommand → List ℕ → Contents
 contents queues commands image = record { queues = queues; commands = commands; image = image }
 
-abbrev pub entry_of_work : Work → SubEntry
+abbrev pub entry_of_work : FetchedWork → SubEntry
 entry_of_work (Io job) = job.entry
 entry_of_work (Admin entry status dw0) = entry
 
 -- how a command ends, once that is known; an admin command's end is known from its fetch on
-abbrev pub verdict_of_work : Work → Option Status
+abbrev pub verdict_of_work : FetchedWork → Option Status
 verdict_of_work (Io job) = job.verdict
 verdict_of_work (Admin entry status dw0) = Some status
 
-abbrev pub dw0_of_work : Work → ℕ
+abbrev pub dw0_of_work : FetchedWork → ℕ
 dw0_of_work (Io job) = 0
 dw0_of_work (Admin entry status dw0) = dw0
 
@@ -44,9 +44,9 @@ dw0_of_work (Admin entry status dw0) = dw0
 abbrev pub is_command : ℕ → ℕ → FetchedCommand → Bool
 is_command q cid k = (k.q == q) && ((entry_of_work k.work).cid == cid)
 
--- A command of an I/O queue was checked over an image of so many blocks, and its walk ends after 12,545 units at most. All others are of
+-- A command of an I/O queue was checked over an image of this many blocks, and its walk ends after 12,545 units at most. All others are of
 -- queue 0, and only I/O queues are deleted. A completion can carry the status of each.
-abbrev pub FitsWork : ℕ → ℕ → ℕ → Work → Type 0
+abbrev pub FitsWork : ℕ → ℕ → ℕ → FetchedWork → Type 0
 FitsWork blocks q done (Io job) = ((q == 0) ≡ false) × (job.blocks ≡ blocks) × FitsVerdict job.verdict × (done + left_of_walk job.walk ≤ 12545)
 FitsWork blocks q done (Admin entry status dw0) = (q ≡ 0) × (status.sct < 8) × (is_deletion entry status ≡ true → (named_queue entry == 0) ≡ false)
 

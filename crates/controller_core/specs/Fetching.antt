@@ -8,28 +8,28 @@ use Rattle.io_commands.specs.Jobs.{JobContents, io_fault, bytes_after_check, Beg
 use Rattle.page_memory.specs.Memory.{Memory}
 use Rattle.queue_pair.specs.{Memory.{submission_page, entry_at}, Rings.ControllerSide}
 use Rattle.controller_core.specs.{Posting.{post_refusal_at, completion_by, memory_posted, page_posted, with_posted}, Contents.{Contents, change, is_command}}
-use Rattle.controller_core.specs.{Managing.{with_taken, command_of, managed}, declared.{command.Work.TheVariants.Io, queue.ControllerQueue.ControllerQueue}}
-use Rattle.controller_core.specs.declared.refusal.Refusal.{Refusal}
-use Rattle.controller_core.specs.declared.refusal.Refusal.TheVariants as refusal
+use Rattle.controller_core.specs.{Managing.{with_taken, command_of, managed}, declared.{command.FetchedWork.TheVariants.Io, queue.ControllerQueue.ControllerQueue}}
+use Rattle.controller_core.specs.declared.refusal.ControllerRefusal.{ControllerRefusal}
+use Rattle.controller_core.specs.declared.refusal.ControllerRefusal.TheVariants as refusal
 
 -- the rings of a queue from which entries are fetched
 abbrev pub live_side : Option ControllerQueue → Option ControllerSide
 live_side queue = option_and_then (λ queue. if is_live queue.state then Some queue.controller else None) queue
 
 -- what a look at the entry at the head is refused for: none was rung, or a byte of its slot is missing
-abbrev pub side_refusal : Memory → ControllerSide → Option Refusal
+abbrev pub side_refusal : Memory → ControllerSide → Option ControllerRefusal
 side_refusal m controller =
     if controller.ring.head == controller.ring.bell then Some refusal.Idle
     else option_map_or (λ e. None) (entry_at m controller.sq controller.ring.head) (Some refusal.SlotOut)
 
-abbrev pub look_refusal : Contents → Memory → ℕ → Option Refusal
+abbrev pub look_refusal : Contents → Memory → ℕ → Option ControllerRefusal
 look_refusal c m q = option_map_or (side_refusal m) (live_side (slice_get c.queues q)) (Some refusal.Idle)
 
 abbrev pub is_known : Contents → ℕ → SubEntry → Bool
 is_known c q e = is_some (find (is_command q e.cid) c.commands)
 
 -- An identifier that was fetched and not completed gets Command Identifier Conflict at once, and wants room for that.
-abbrev pub entry_refusal : Contents → Memory → ℕ → SubEntry → Option Refusal
+abbrev pub entry_refusal : Contents → Memory → ℕ → SubEntry → Option ControllerRefusal
 entry_refusal c m q e = if is_known c q e then post_refusal_at c.queues m q else None
 
 -- the entry at the head of a live queue, rung or not, where no byte of its slot is missing
@@ -37,11 +37,11 @@ abbrev pub rung_entry : Contents → Memory → ℕ → Option SubEntry
 rung_entry c m q = option_and_then (λ controller. entry_at m controller.sq controller.ring.head) (live_side (slice_get c.queues q))
 
 -- what a fetch is refused for where memory is not wanted: the first that holds
-abbrev pub fetch_refusal : Contents → Memory → ℕ → Option Refusal
+abbrev pub fetch_refusal : Contents → Memory → ℕ → Option ControllerRefusal
 fetch_refusal c m q =
     if is_some (look_refusal c m q) then look_refusal c m q else option_and_then (entry_refusal c m q) (rung_entry c m q)
 
--- An entry that was looked at: its page is touched, behind those that were touched before.
+-- An entry that was looked at: its page is touched, after those that were touched before.
 pub record LooksAt (c : Contents) (m : Memory) (reached : List ℕ) (q : ℕ) (e : SubEntry) (reached' : List ℕ) : Type 0 where
   pub controller : ControllerSide
   pub here : live_side (slice_get c.queues q) ≡ Some controller
@@ -61,7 +61,7 @@ pub record IsBegun (image : List ℕ) (e : SubEntry) (job : JobContents) : Type 
 abbrev pub begun : ℕ → JobContents → Contents → Contents
 begun q job c = record c { queues = change q with_taken c.queues; commands = c.commands ++ command_of q (Io job) ∷ [] }
 
--- The entry of an I/O queue is taken, and its command stands behind the others.
+-- The entry of an I/O queue is taken, and its command stands after the others.
 pub record Begins (c : Contents) (q : ℕ) (e : SubEntry) (c' : Contents) : Type 0 where
   pub job : JobContents
   pub is : IsBegun c.image e job
@@ -84,7 +84,7 @@ abbrev pub Takes : Bool → Contents → ℕ → ℕ → SubEntry → Memory →
 Takes true c pages q e m looked c' m' reached' = PostsConflict c.queues q e.cid m looked c'.queues m' reached' × (c'.commands ≡ c.commands) × (c'.image ≡ c.image)
 Takes false c pages q e m looked c' m' reached' = TakesIn (q == 0) c pages q e c' × (m' ≡ m) × (reached' ≡ looked)
 
--- What a fetch makes of a controller, of the memory and of the list of the pages touched, over a pool of so many pages.
+-- What a fetch makes of a controller, of the memory and of the list of the pages touched, over a pool of this many pages.
 pub record FetchesTo (c : Contents) (pages : ℕ) (m : Memory) (reached : List ℕ) (q cid : ℕ) (c' : Contents) (m' : Memory) (reached' : List ℕ) : Type 0 where
   pub entry : SubEntry
   pub looked : List ℕ
@@ -94,15 +94,15 @@ pub record FetchesTo (c : Contents) (pages : ℕ) (m : Memory) (reached : List �
   pub takes : Takes (is_known c q entry) c pages q entry m looked c' m' reached'
 
 -- What one is refused for: nothing to look at, no room for a completion at once, or else memory for the command.
-pub record RefusedEntry (c : Contents) (m : Memory) (reached : List ℕ) (q : ℕ) (why : Refusal) (reached' : List ℕ) : Type 0 where
+pub record RefusedEntry (c : Contents) (m : Memory) (reached : List ℕ) (q : ℕ) (why : ControllerRefusal) (reached' : List ℕ) : Type 0 where
   pub entry : SubEntry
   pub looks : LooksAt c m reached q entry reached'
   pub cause : (if is_known c q entry then entry_refusal c m q entry else Some refusal.Memory) ≡ Some why
 
-abbrev pub RefusedBy : Option Refusal → Contents → Memory → List ℕ → ℕ → Refusal → List ℕ → Type 0
+abbrev pub RefusedBy : Option ControllerRefusal → Contents → Memory → List ℕ → ℕ → ControllerRefusal → List ℕ → Type 0
 RefusedBy (Some cause) c m reached q why reached' = (why ≡ cause) × (reached' ≡ reached)
 RefusedBy None c m reached q why reached' = RefusedEntry c m reached q why reached'
 
-abbrev pub Fetches : Contents → ℕ → Memory → List ℕ → ℕ → Result ℕ Refusal → Contents → Memory → List ℕ → Type 0
+abbrev pub Fetches : Contents → ℕ → Memory → List ℕ → ℕ → Result ℕ ControllerRefusal → Contents → Memory → List ℕ → Type 0
 Fetches c pages m reached q (Ok cid) c' m' reached' = FetchesTo c pages m reached q cid c' m' reached'
 Fetches c pages m reached q (Err why) c' m' reached' = RefusedBy (look_refusal c m q) c m reached q why reached' × (c' ≡ c) × (m' ≡ m)

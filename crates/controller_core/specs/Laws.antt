@@ -3,13 +3,13 @@
 use Rattle.std.specs.Prelude.{◌≡◌, ℕ, None, List, map}
 use Rattle.controller_walk.specs.declared.walk.WalkState.{WalkState}
 use Rattle.page_memory.specs.Memory.{Memory}
-use Rattle.controller_core.specs.{Completing.CompletesTo, Contents.{Contents, IsController, FetchedCommand, Work}}
-use Rattle.controller_core.specs.{Fetching.{FetchesTo, RefusedBy, look_refusal}, Walking.WalksTo, declared.command.Work.TheVariants.{Io, Admin}}
-use Rattle.controller_core.specs.declared.refusal.Refusal.{Refusal}
-use Rattle.controller_core.specs.declared.refusal.Refusal.TheVariants as refusal
+use Rattle.controller_core.specs.{Completing.CompletesTo, Contents.{Contents, IsController, FetchedCommand, FetchedWork}}
+use Rattle.controller_core.specs.{Fetching.{FetchesTo, RefusedBy, look_refusal}, Walking.WalksTo, declared.command.FetchedWork.TheVariants.{Io, Admin}}
+use Rattle.controller_core.specs.declared.refusal.ControllerRefusal.{ControllerRefusal}
+use Rattle.controller_core.specs.declared.refusal.ControllerRefusal.TheVariants as refusal
 
 -- a command without the place of its walk
-abbrev pub unplaced : Work → Work
+abbrev pub unplaced : FetchedWork → FetchedWork
 unplaced (Io job) = Io (record job { walk = None })
 unplaced (Admin entry status dw0) = Admin entry status dw0
 
@@ -40,10 +40,10 @@ FetchesOneWay =
 -- A refusal is determined too, and a fetch that can be served is refused for want of memory alone.
 abbrev pub RefusesOneWay : Type 0
 RefusesOneWay =
-    (c : Contents) (m : Memory) (r : List ℕ) (q : ℕ) (why why' : Refusal) (t t' : List ℕ)
+    (c : Contents) (m : Memory) (r : List ℕ) (q : ℕ) (why why' : ControllerRefusal) (t t' : List ℕ)
     → RefusedBy (look_refusal c m q) c m r q why t → RefusedBy (look_refusal c m q) c m r q why' t' → (why ≡ why') × (t ≡ t')
 
 abbrev pub ServedUnlessMemory : Type 0
 ServedUnlessMemory =
-    (c : Contents) (pages : ℕ) (m : Memory) (r : List ℕ) (q cid : ℕ) (why : Refusal) (x : Contents) (n : Memory) (t t' : List ℕ)
+    (c : Contents) (pages : ℕ) (m : Memory) (r : List ℕ) (q cid : ℕ) (why : ControllerRefusal) (x : Contents) (n : Memory) (t t' : List ℕ)
     → FetchesTo c pages m r q cid x n t → RefusedBy (look_refusal c m q) c m r q why t' → why ≡ refusal.Memory

@@ -5,25 +5,25 @@ use Rattle.block_image.specs.{Blocks.{block_count, shown, is_lent}, declared.len
 use Rattle.entry_codec.specs.declared.submission.SubEntry.{SubEntry}
 use Rattle.io_commands.specs.Jobs.{first_block, block_number, lacks_blocks, lacks_read}
 use Rattle.page_memory.specs.Memory.{Memory}
-use Rattle.controller_core.specs.{Completing.{complete_refusal, waits_among}, Contents.{Contents, FetchedCommand, Work, entry_of_work, is_command, verdict_of_work}}
+use Rattle.controller_core.specs.{Completing.{complete_refusal, waits_among}, Contents.{Contents, FetchedCommand, FetchedWork, entry_of_work, is_command, verdict_of_work}}
 use Rattle.controller_core.specs.{Fetching.{FetchesTo, LooksAt, RefusedBy, entry_refusal, is_known, look_refusal, rung_entry}, Posting.post_refusal_at}
-use Rattle.controller_core.specs.declared.{command.Work.TheVariants.{Io, Admin}, refusal.Refusal.Refusal}
+use Rattle.controller_core.specs.declared.{command.FetchedWork.TheVariants.{Io, Admin}, refusal.ControllerRefusal.ControllerRefusal}
 use Rattle.controller_core.specs.declared.lending.LentRefusal.{LentRefusal, TheVariants.{Refused, NotLent}}
-use Rattle.controller_core.specs.declared.refusal.Refusal.TheVariants as refusal
+use Rattle.controller_core.specs.declared.refusal.ControllerRefusal.TheVariants as refusal
 
 -- the same queues and commands, over other blocks
 abbrev pub with_image : Contents → List ℕ → Contents
 with_image c image = record c { image = image }
 
--- the bytes of a namespace of which some blocks are lent, and whether so many blocks from a first one on are among these
+-- the bytes of a namespace of which some blocks are lent, and whether this many blocks from a first one on are among these
 abbrev pub bytes_lent : Lent → List ℕ
 bytes_lent lent = shown lent.blocks lent.first lent.bytes.now
 
 abbrev pub is_in : Lent → ℕ → ℕ → Bool
 is_in lent = is_lent lent.first lent.bytes.now
 
--- what a fetch is refused for behind its look: no room for a completion at once, or else memory for the command
-abbrev pub IsRefusedBehindLook : Contents → Memory → ℕ → SubEntry → Refusal → Type 0
+-- what a fetch is refused for after its look: no room for a completion at once, or else memory for the command
+abbrev pub IsRefusedBehindLook : Contents → Memory → ℕ → SubEntry → ControllerRefusal → Type 0
 IsRefusedBehindLook c m q e why = (if is_known c q e then entry_refusal c m q e else Some refusal.Memory) ≡ Some why
 
 -- a call that wants the blocks that an entry names
@@ -59,7 +59,7 @@ FetchesLent c pages m reached q (Err (Refused why)) c' m' reached' = RefusedBy (
 FetchesLent c pages m reached q (Err (NotLent slba count)) c' m' reached' = OnlyLooks c m reached q reached' × (c' ≡ c) × (m' ≡ m)
 
 -- whether the end of a command reads or writes blocks that are not at hand
-abbrev pub work_lacks : (ℕ → ℕ → Bool) → Work → Bool
+abbrev pub work_lacks : (ℕ → ℕ → Bool) → FetchedWork → Bool
 work_lacks at_hand (Io job) = lacks_blocks at_hand job
 work_lacks at_hand (Admin entry status dw0) = false
 
@@ -67,11 +67,11 @@ abbrev pub command_lacks : (ℕ → ℕ → Bool) → List FetchedCommand → �
 command_lacks at_hand commands q cid = option_map_or (λ k. work_lacks at_hand k.work) (find (is_command q cid) commands) false
 
 -- what a completion is refused for that lies in the command, whatever memory and blocks hold
-abbrev pub command_cause : List FetchedCommand → FetchedCommand → Option Refusal
+abbrev pub command_cause : List FetchedCommand → FetchedCommand → Option ControllerRefusal
 command_cause commands k =
     if is_none (verdict_of_work k.work) then Some refusal.Walking else if waits_among commands k then Some refusal.Waits else None
 
-abbrev pub unready : Contents → ℕ → ℕ → Option Refusal
+abbrev pub unready : Contents → ℕ → ℕ → Option ControllerRefusal
 unready c q cid = option_map_or (command_cause c.commands) (find (is_command q cid) c.commands) (Some refusal.NoJob)
 
 -- What a completion is refused for over blocks that are lent, the first that holds: the blocks are wanted before the completion is posted.

@@ -7,14 +7,14 @@ use Rattle.queue_pair.specs.Rings.{ControllerSide}
 use Rattle.controller_core.specs.{Posting.post_refusal, Completing.complete_refusal, Contents.{Contents, FetchedCommand, entry_of_work}}
 use Rattle.controller_core.specs.{Fetching.{fetch_refusal, look_refusal, rung_entry, is_known}, Walking.walk_refusal}
 use Rattle.controller_core.specs.declared.{look.ControllerStep.{ControllerStep, TheVariants.{Fetch, Walk, Complete}}, queue.ControllerQueue.ControllerQueue}
-use Rattle.controller_core.specs.declared.refusal.Refusal.{Refusal}
+use Rattle.controller_core.specs.declared.refusal.ControllerRefusal.{ControllerRefusal}
 
--- the queue and the identifier of the command that was fetched behind so many others
+-- the queue and the identifier of the command that was fetched after this many others
 abbrev pub name_at : List FetchedCommand → ℕ → Option (ℕ × ℕ)
 name_at commands n = option_map (λ k. (k.q, (entry_of_work k.work).cid)) (slice_get commands n)
 
 -- what a call is refused for
-abbrev pub refusal_by : Contents → Memory → ControllerStep → Option Refusal
+abbrev pub refusal_by : Contents → Memory → ControllerStep → Option ControllerRefusal
 refusal_by c m (Fetch q) = fetch_refusal c m q
 refusal_by c m (Walk q cid) = walk_refusal c q cid
 refusal_by c m (Complete q cid) = complete_refusal c m q cid
@@ -44,7 +44,7 @@ entry_touches c m q e = if is_known c q e then 1 + post_touches_at c.queues m q 
 abbrev pub fetch_touches : Contents → Memory → ℕ → ℕ
 fetch_touches c m q = if is_some (look_refusal c m q) then 0 else option_map_or (entry_touches c m q) (rung_entry c m q) 0
 
--- at the heads of so many queues, from queue 0 on
+-- at the heads of this many queues, from queue 0 on
 abbrev pub heads_touch : Contents → Memory → ℕ → ℕ
 heads_touch c m zero = 0
 heads_touch c m (suc n) = heads_touch c m n + fetch_touches c m n

@@ -7,18 +7,18 @@ use Rattle.admin_commands.specs.declared.{DeviceView.DeviceView, SqState.TheVari
 use Rattle.entry_codec.specs.declared.status.{Status.Status, TheConstants.Status.{SUCCESS, ABORT_REQUESTED, ABORTED_SQ_DELETION}}
 use Rattle.entry_codec.specs.declared.submission.SubEntry.{SubEntry}
 use Rattle.queue_pair.specs.Rings.{entry_taken, fresh_controller_ring}
-use Rattle.controller_core.specs.{Contents.{Contents, FetchedCommand, Work, change, is_command, verdict_of_work}, Doorbells.with_side}
-use Rattle.controller_core.specs.declared.{command.Work.TheVariants.{Io, Admin}, queue.ControllerQueue.ControllerQueue}
+use Rattle.controller_core.specs.{Contents.{Contents, FetchedCommand, FetchedWork, change, is_command, verdict_of_work}, Doorbells.with_side}
+use Rattle.controller_core.specs.declared.{command.FetchedWork.TheVariants.{Io, Admin}, queue.ControllerQueue.ControllerQueue}
 
 -- a queue of which the entry at the head is taken
 abbrev pub with_taken : ControllerQueue → ControllerQueue
 with_taken queue = with_side (record queue.controller { ring = entry_taken queue.controller.entries queue.controller.ring }) queue
 
 -- a command as it is fetched
-abbrev pub command_of : ℕ → Work → FetchedCommand
+abbrev pub command_of : ℕ → FetchedWork → FetchedCommand
 command_of q work = record { q = q; units_done = 0; waiting_abort = None; work = work }
 
--- what the rule of an admin entry looks at, over a pool of so many pages
+-- what the rule of an admin entry looks at, over a pool of this many pages
 abbrev pub view_for : ℕ → List ControllerQueue → List FetchedCommand → SubEntry → DeviceView
 view_for pages queues commands e =
     record {
@@ -31,7 +31,7 @@ view_for pages queues commands e =
     }
 
 -- a command that has no verdict ends with this status
-abbrev pub stopped_work : Status → Work → Work
+abbrev pub stopped_work : Status → FetchedWork → FetchedWork
 stopped_work st (Io job) = Io (if is_none job.verdict then record job { verdict = Some st } else job)
 stopped_work st (Admin entry status dw0) = Admin entry status dw0
 
@@ -99,10 +99,10 @@ dw0_of_verdict (DropCompletion q) = 0
 dw0_of_verdict (MakeCompletion q base) = 0
 dw0_of_verdict (MakeSubmission q base) = 0
 
-abbrev pub admin_work : SubEntry → AdminVerdict → Work
+abbrev pub admin_work : SubEntry → AdminVerdict → FetchedWork
 admin_work e v = Admin e (status_of_verdict v) (dw0_of_verdict v)
 
--- the controller behind an admin entry with its verdict: the entry is taken, the verdict is carried out, and the command stands behind the others
+-- the controller after an admin entry with its verdict: the entry is taken, the verdict is carried out, and the command stands after the others
 abbrev pub managed_by : SubEntry → AdminVerdict → Contents → Contents
 managed_by e v c =
     record {

@@ -4,25 +4,25 @@ use Rattle.entry_codec.specs.{Completion.{completion_bytes, IsComEntry}, declare
 use Rattle.entry_codec.specs.declared.hints.TheConstants.Hints.{NONE}
 use Rattle.page_memory.specs.Memory.{Memory, written}
 use Rattle.queue_pair.specs.{Memory.{completion_page, completion_place, completion_slot}, Rings.{ControllerSide, completion_posted}, Slots.is_full}
-use Rattle.controller_core.specs.{Contents.change, Doorbells.with_side, declared.{queue.ControllerQueue.ControllerQueue, refusal.Refusal.Refusal}}
-use Rattle.controller_core.specs.declared.refusal.Refusal.TheVariants as refusal
+use Rattle.controller_core.specs.{Contents.change, Doorbells.with_side, declared.{queue.ControllerQueue.ControllerQueue, refusal.ControllerRefusal.ControllerRefusal}}
+use Rattle.controller_core.specs.declared.refusal.ControllerRefusal.TheVariants as refusal
 
 -- what a completion is refused for: the ring is full, or a byte of the slot at the tail is missing
-abbrev pub post_refusal : Memory → ControllerSide → Option Refusal
+abbrev pub post_refusal : Memory → ControllerSide → Option ControllerRefusal
 post_refusal m controller =
     if is_full controller.entries controller.ring.known_head controller.ring.tail then Some refusal.Full
     else if is_none (completion_slot m controller.cq controller.ring.tail) then Some refusal.SlotOut
     else None
 
 -- the same of a queue by its number
-abbrev pub post_refusal_at : List ControllerQueue → Memory → ℕ → Option Refusal
+abbrev pub post_refusal_at : List ControllerQueue → Memory → ℕ → Option ControllerRefusal
 post_refusal_at queues m q = option_map_or (λ queue. post_refusal m queue.controller) (slice_get queues q) None
 
 -- the completion of a command, with the submission head and the phase of this moment
 abbrev pub completion_by : ℕ → ℕ → Status → ℕ → ControllerSide → ComEntry
 completion_by q cid st dw0 controller = record { dw0 = dw0; sqhd = controller.ring.head; sqid = q; cid = cid; phase = controller.ring.phase; status = st; hints = NONE }
 
--- the memory with a completion in the slot at the tail, the page of that slot, and the queue behind it
+-- the memory with a completion in the slot at the tail, the page of that slot, and the queue after it
 abbrev pub memory_posted : Memory → ControllerSide → ComEntry → Memory
 memory_posted m controller e = written m (completion_place controller.cq controller.ring.tail) (completion_bytes e)
 

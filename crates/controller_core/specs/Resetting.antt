@@ -5,7 +5,7 @@ use Rattle.page_memory.specs.Memory.{Memory}
 use Rattle.queue_pair.specs.Rings.{fresh_controller_ring}
 use Rattle.controller_core.specs.{Completing.complete_refusal, Contents.Contents, Doorbells.{head_rung, tail_rung}, Fetching.fetch_refusal}
 use Rattle.controller_core.specs.{Walking.walk_refusal, declared.queue.ControllerQueue.ControllerQueue}
-use Rattle.controller_core.specs.declared.refusal.Refusal.TheVariants as refusal
+use Rattle.controller_core.specs.declared.refusal.ControllerRefusal.TheVariants as refusal
 
 -- the queue of a number: queue 0 is live, and no other queue is there; both rings are as they are opened, over the halves that they have
 abbrev pub queue_reset : ℕ → ControllerQueue → ControllerQueue
@@ -27,7 +27,7 @@ pub record IsQuiet (c : Contents) : Type 0 where
   pub walks : (q cid : ℕ) → walk_refusal c q cid ≡ Some refusal.NoJob
   pub completes : (m : Memory) (q cid : ℕ) → complete_refusal c m q cid ≡ Some refusal.NoJob
 
--- So it is behind a reset, whatever the controller was, and a write of a head doorbell then changes nothing of that.
+-- So it is after a reset, whatever the controller was, and a write of a head doorbell then changes nothing of that.
 abbrev pub ResetIsQuiet : Type 0
 ResetIsQuiet = (c : Contents) → IsQuiet (reset c)
 

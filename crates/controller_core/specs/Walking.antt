@@ -3,22 +3,22 @@ use Rattle.std.specs.{Option.option_map_or, Prelude.{◌≡◌, ℕ, ◌+◌, �
 use Rattle.controller_walk.specs.{Walks.{DoesFirst, LeavesRest}, declared.walk.WalkState.WalkState}
 use Rattle.io_commands.specs.Jobs.{JobContents, job_course, direction_of_entry, left_of_walk, verdict_of}
 use Rattle.page_memory.specs.Memory.{Memory}
-use Rattle.controller_core.specs.{Contents.{Contents, FetchedCommand, verdict_of_work, is_command}, declared.command.Work.TheVariants.Io}
-use Rattle.controller_core.specs.declared.refusal.Refusal.{Refusal}
-use Rattle.controller_core.specs.declared.refusal.Refusal.TheVariants as refusal
+use Rattle.controller_core.specs.{Contents.{Contents, FetchedCommand, verdict_of_work, is_command}, declared.command.FetchedWork.TheVariants.Io}
+use Rattle.controller_core.specs.declared.refusal.ControllerRefusal.{ControllerRefusal}
+use Rattle.controller_core.specs.declared.refusal.ControllerRefusal.TheVariants as refusal
 
 -- what a walk is refused for: there is no such command, or it has its verdict
-abbrev pub ended_refusal : FetchedCommand → Option Refusal
+abbrev pub ended_refusal : FetchedCommand → Option ControllerRefusal
 ended_refusal k = if is_some (verdict_of_work k.work) then Some refusal.Nothing else None
 
-abbrev pub refusal_among : List FetchedCommand → ℕ → ℕ → Option Refusal
+abbrev pub refusal_among : List FetchedCommand → ℕ → ℕ → Option ControllerRefusal
 refusal_among commands q cid = option_map_or ended_refusal (find (is_command q cid) commands) (Some refusal.NoJob)
 
-abbrev pub walk_refusal : Contents → ℕ → ℕ → Option Refusal
+abbrev pub walk_refusal : Contents → ℕ → ℕ → Option ControllerRefusal
 walk_refusal c q cid = refusal_among c.commands q cid
 
 -- Of what the list still has to do in this memory, the first unit is done, and the rest is left: what is left of the job and of the
--- memory, what is answered, and which pages are touched behind those that were touched before.
+-- memory, what is answered, and which pages are touched after those that were touched before.
 pub record DoesUnit (m : Memory) (reached : List ℕ) (job : JobContents) (outcome : WalkState) (job' : JobContents) (m' : Memory) (reached' : List ℕ) : Type 0 where
   pub does : DoesFirst (job_course m job) (direction_of_entry job.entry) m m' job.bytes job'.bytes reached reached'
   pub leaves : LeavesRest (job_course m job) outcome (job_course m job')

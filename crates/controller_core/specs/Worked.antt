@@ -11,7 +11,7 @@ use Rattle.queue_pair.specs.Rings.{fresh_controller_ring}
 use Rattle.sgl_descriptor.specs.declared.Direction.TheVariants.{Destination}
 use Rattle.controller_core.specs.{Posting.completion_by, Completing.{completed, without_submission}, Contents.{Contents, change}, Doorbells.tail_rung}
 use Rattle.controller_core.specs.{Fetching.begun, Managing.{command_of, managed, without_completion}, Opening.opened, Resetting.reset}
-use Rattle.controller_core.specs.declared.{command.Work.TheVariants.Io, queue.{ControllerQueue.ControllerQueue, QueuePages.QueuePages}}
+use Rattle.controller_core.specs.declared.{command.FetchedWork.TheVariants.Io, queue.{ControllerQueue.ControllerQueue, QueuePages.QueuePages}}
 
 abbrev pub block : List ℕ
 block = replicate 512 0x11
@@ -31,7 +31,7 @@ rung = tail_rung 1 1 fresh
 abbrev pub memory_with_entry : Memory
 memory_with_entry = written eight_pages 0x2000 first_read_bytes
 
--- the Read, whose walk meets this next with so many bytes wanted
+-- the Read, whose walk meets this next with this many bytes wanted
 abbrev pub read_at : State → ℕ → Option Status → JobContents
 read_at state wanted verdict =
     record {
@@ -120,7 +120,7 @@ with_queue_made = managed 8 create_sq with_completion_made
 abbrev pub made_queue : ControllerQueue
 made_queue = record { state = Live; cq_there = true; controller = record { q = 1; entries = 4; sq = 5; cq = 6; ring = fresh_controller_ring } }
 
--- The Read in the midst of its walk, and an Abort that stopped it. A reset ends both. Then the tail of queue 0 is rung behind the two
+-- The Read in the midst of its walk, and an Abort that stopped it. A reset ends both. Then the tail of queue 0 is rung after the two
 -- creations.
 abbrev pub with_abort : Contents
 with_abort = managed 8 (admin_entry (Abort 1 0) 0) (tail_rung 0 1 with_read_halfway)

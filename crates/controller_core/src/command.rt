@@ -17,12 +17,12 @@ pub struct FetchedCommand<J = Job> {
     /// The Abort, by its identifier on queue 0, whose completion waits for this one.
     pub waiting_abort: Option<u16>,
     /// The command itself.
-    pub work: Work<J>,
+    pub work: FetchedWork<J>,
 }
 
 /// What a fetched command is.
 #[derive(Drop)]
-pub enum Work<J = Job> {
+pub enum FetchedWork<J = Job> {
     /// A command of an I/O queue.
     Io(J),
     /// A command of queue 0, which was decided at its fetch.
@@ -36,14 +36,14 @@ pub enum Work<J = Job> {
     },
 }
 
-impl<A: Allocator> Work<Job<A>> {
+impl<A: Allocator> FetchedWork<Job<A>> {
     /// The entry, as it was fetched.
     pub fn entry(&self) -> &SubEntry
         ensures { result.now ≡ entry_of_work self.now }
     {
         match self {
-            Work::Io(job) => job.entry(),
-            Work::Admin { entry, .. } => entry,
+            FetchedWork::Io(job) => job.entry(),
+            FetchedWork::Admin { entry, .. } => entry,
         }
     }
 
@@ -52,8 +52,8 @@ impl<A: Allocator> Work<Job<A>> {
         ensures { result ≡ verdict_of_work self.now }
     {
         match self {
-            Work::Io(job) => job.verdict(),
-            Work::Admin { status, .. } => Some(*status),
+            FetchedWork::Io(job) => job.verdict(),
+            FetchedWork::Admin { status, .. } => Some(*status),
         }
     }
 }

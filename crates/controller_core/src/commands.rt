@@ -12,7 +12,7 @@ ghost use Rattle.controller_core.specs.Tables.{count_of};
 ghost use Rattle.controller_core.specs.Walking.{refusal_among, WalksAmong};
 
 use crate::command::FetchedCommand;
-use crate::refusal::Refusal;
+use crate::refusal::ControllerRefusal;
 use controller_walk::WalkState;
 use entry_codec::Status;
 use io_commands::Job;
@@ -52,7 +52,7 @@ fn forget(counts: &mut [usize])
 }
 
 impl<A: Allocator + Copy> Commands<A> {
-    /// No commands of so many queues.
+    /// No commands of this many queues.
     pub(crate) fn open(alloc: A, queues: usize) -> Result<Self, AllocError>
         ensures { IfOk result (λ commands. commands ≡ record { queues = queues; list = [] }) }
     {
@@ -88,7 +88,7 @@ impl<A: Allocator> Commands<A> {
         self.table.first()
     }
 
-    /// The queue and the identifier of the command that was fetched behind the one of this name.
+    /// The queue and the identifier of the command that was fetched after the one of this name.
     pub(crate) fn next(&self, q: u16, cid: u16) -> Option<(u16, u16)>
         ensures { (n : ℕ) → name_at self.now.list n ≡ Some (q, cid) → result ≡ name_at self.now.list (n + 1) }
     {
@@ -105,7 +105,7 @@ impl<A: Allocator> Commands<A> {
         q: u16,
         cid: u16,
         dma: &mut D,
-    ) -> Result<WalkState, Refusal>
+    ) -> Result<WalkState, ControllerRefusal>
         requires few { refusal_among self.old.list q cid ≡ None → IfSome (find (is_command q cid) self.old.list) (λ k. k.units_done ≤ 12545) }
         requires room { length (D.reached dma.old) ≤ 2 }
         ensures refusal { result_err result ≡ refusal_among self.old.list q cid }
@@ -116,7 +116,7 @@ impl<A: Allocator> Commands<A> {
         ensures pool { D.page_count dma.new ≡ D.page_count dma.old }
     {
         let Some(command) = self.table.get_mut(q, cid) else {
-            return Err(Refusal::NoJob);
+            return Err(ControllerRefusal::NoJob);
         };
         command.walk(dma)
     }
@@ -200,7 +200,7 @@ impl<A: Allocator> Commands<A> {
 }
 
 impl<A: Allocator + Clone> Commands<A> {
-    /// Puts a command behind the others.
+    /// Puts a command after the others.
     pub(crate) fn put(&mut self, command: FetchedCommand<Job<A>>) -> Result<(), AllocError>
         requires there { command.q < self.old.queues }
         requires unknown { is_some (find (is_command command.q (entry_of_work command.work).cid) self.old.list) ≡ false }

@@ -10,12 +10,12 @@ ghost use Rattle.controller_core.specs.Completing.{complete_refusal, status_of_e
 ghost use Rattle.controller_core.specs.Contents.{contents, change, dw0_of_work, verdict_of_work, is_command, is_deletion, IsController};
 ghost use Rattle.controller_core.specs.Lending.{command_lacks, unready, work_lacks};
 
-use crate::command::Work;
+use crate::command::FetchedWork;
 use crate::commands::Commands;
 use crate::controller::Controller;
 use crate::post::post_at;
 use crate::queue::ControllerQueue;
-use crate::refusal::Refusal;
+use crate::refusal::ControllerRefusal;
 use admin_commands::{SqState, queue_of};
 use block_image::Blocks;
 use entry_codec::admin_opcode::DELETE_IO_SQ;
@@ -41,7 +41,7 @@ fn drop_submission<A: Allocator>(queues: &mut Vec<ControllerQueue, A>, q: u16)
     }
 }
 
-impl<A: Allocator> Work<Job<A>> {
+impl<A: Allocator> FetchedWork<Job<A>> {
     /// How a command ends over an image: the status of its completion, and its command specific double word.
     fn end<I: Blocks>(&self, image: &I) -> (Status, u32)
         requires verdict { IsSome (verdict_of_work self.now) }
@@ -51,8 +51,8 @@ impl<A: Allocator> Work<Job<A>> {
         ensures dw0 { result.1 ≡ dw0_of_work self.now }
     {
         match self {
-            Work::Io(job) => (job.final_status(image), 0),
-            Work::Admin { status, dw0, .. } => (*status, *dw0),
+            FetchedWork::Io(job) => (job.final_status(image), 0),
+            FetchedWork::Admin { status, dw0, .. } => (*status, *dw0),
         }
     }
 
@@ -61,18 +61,18 @@ impl<A: Allocator> Work<Job<A>> {
         ensures { result ≡ work_lacks (I.at_hand image.now) self.now }
     {
         match self {
-            Work::Io(job) => job.lacks_blocks(image),
-            Work::Admin { .. } => false,
+            FetchedWork::Io(job) => job.lacks_blocks(image),
+            FetchedWork::Admin { .. } => false,
         }
     }
 }
 
-/// Does what a command does at its end: a Write that ended well puts its bytes over its blocks, and behind a successful deletion of a
+/// Does what a command does at its end: a Write that ended well puts its bytes over its blocks, and after a successful deletion of a
 /// submission queue that queue is not there.
 fn settle<A: Allocator, I: Blocks>(
     queues: &mut Vec<ControllerQueue, A>,
     image: &mut I,
-    work: Work<Job<A>>,
+    work: FetchedWork<Job<A>>,
 )
     requires verdict { IsSome (verdict_of_work work) }
     requires over { CanEnd (block_count (I.bytes image.old)) work }
@@ -83,10 +83,10 @@ fn settle<A: Allocator, I: Blocks>(
     ensures place { I.place image.new ≡ I.place image.old }
 {
     match work {
-        Work::Io(job) => {
+        FetchedWork::Io(job) => {
             finish_job(job, image);
         }
-        Work::Admin { entry, status, .. } => {
+        FetchedWork::Admin { entry, status, .. } => {
             if deletes(&entry, status) {
                 drop_submission(queues, queue_of(&entry));
             }
@@ -103,7 +103,7 @@ pub(crate) fn finish_at<A: Allocator, I: Blocks, D: Dma>(
     q: u16,
     cid: u16,
     dma: &mut D,
-) -> Result<(), Refusal>
+) -> Result<(), ControllerRefusal>
     requires sound { IsController (contents queues.old.items commands.old.list (I.bytes image.old)) }
     requires ended { IsSome (option_and_then (λ k. verdict_of_work k.work) (find (is_command q cid) commands.old.list)) }
     requires ready { (m : Memory) → complete_refusal (contents queues.old.items commands.old.list (I.bytes image.old)) m q cid ≡ post_refusal_at queues.old.items m q }
@@ -132,20 +132,20 @@ impl<A: Allocator, I: Blocks> Controller<A, I> {
     /// # Errors
     ///
     /// The first cause against it.
-    pub(crate) fn check_complete(&self, q: u16, cid: u16) -> Result<(), Refusal>
+    pub(crate) fn check_complete(&self, q: u16, cid: u16) -> Result<(), ControllerRefusal>
         ensures cause { result_err result ≡ unready self.now q cid }
         ensures refused { IfErr result (λ why. (m : Memory) → complete_refusal self.now m q cid ≡ Some why) }
         ensures ready { IfOk result (λ _. (m : Memory) → complete_refusal self.now m q cid ≡ post_refusal_at self.now.queues m q) }
         ensures ended { IfOk result (λ _. IsSome (option_and_then (λ k. verdict_of_work k.work) (find (is_command q cid) self.now.commands))) }
     {
         let Some(command) = self.commands.get(q, cid) else {
-            return Err(Refusal::NoJob);
+            return Err(ControllerRefusal::NoJob);
         };
         if command.work.verdict().is_none() {
-            return Err(Refusal::Walking);
+            return Err(ControllerRefusal::Walking);
         }
         if self.commands.is_waiting(command) {
-            return Err(Refusal::Waits);
+            return Err(ControllerRefusal::Waits);
         }
         Ok(())
     }
@@ -153,7 +153,7 @@ impl<A: Allocator, I: Blocks> Controller<A, I> {
 
 impl<A: Allocator> Controller<A> {
     /// Posts the completion of a fetched command, and forgets the command. A Write that ends well changes the image here, and
-    /// behind a successful deletion of a submission queue that is not there (NVM Express Base Specification 2.0, "Common Completion Queue Entry",
+    /// after a successful deletion of a submission queue that is not there (NVM Express Base Specification 2.0, "Common Completion Queue Entry",
     /// section 3.3.3.2). The list of the touched pages has two pages at most before, and gets that of the slot.
     ///
     /// # Errors
@@ -161,7 +161,12 @@ impl<A: Allocator> Controller<A> {
     /// 1. `NoJob`: there is no such command. 2. `Walking`: its list isn't walked to the end. 3. `Waits`: an Abort waits for the
     /// command that it stopped, a successful deletion of a submission queue for the queue's commands. 4. `Full`: the completion ring is full. 5. `SlotOut`: a
     /// byte of the slot is missing. Then nothing changed, and no page was touched.
-    pub fn complete<D: Dma>(&mut self, q: u16, cid: u16, dma: &mut D) -> Result<(), Refusal>
+    pub fn complete<D: Dma>(
+        &mut self,
+        q: u16,
+        cid: u16,
+        dma: &mut D,
+    ) -> Result<(), ControllerRefusal>
         requires room { length (D.reached dma.old) ≤ 2 }
         ensures refusal { result_err result ≡ complete_refusal self.old (D.memory dma.old) q cid }
         ensures refused { OnErr result ((self.new ≡ self.old) × (D.memory dma.new ≡ D.memory dma.old) × (D.reached dma.new ≡ D.reached dma.old)) }

@@ -98,7 +98,7 @@ pub(crate) fn open_parts<A: Allocator + Copy>(
 }
 
 impl<A: Allocator + Copy> Controller<A> {
-    /// A controller over an image, with so many entries in each ring. Queue i has the i-th of the pages; queue 0 is the admin queue. Each
+    /// A controller over an image, with this many entries in each ring. Queue i has the i-th of the pages; queue 0 is the admin queue. Each
     /// queue is live with empty rings, and nothing is fetched.
     ///
     /// # Errors

@@ -10,14 +10,14 @@ ghost use Rattle.controller_core.specs.Contents.{change, is_command, FitsWork, I
 ghost use Rattle.controller_core.specs.Lending.{IsRefusedBehindLook};
 ghost use Rattle.controller_core.specs.Fetching.{live_side, side_refusal, look_refusal, entry_refusal, is_known, begun, LooksAt, PostsConflict, Takes, Fetches};
 ghost use Rattle.controller_core.specs.Managing.{with_taken, command_of, managed};
-ghost use Rattle.controller_core.specs.declared.command.Work.TheVariants.{Io};
+ghost use Rattle.controller_core.specs.declared.command.FetchedWork.TheVariants.{Io};
 
-use crate::command::{FetchedCommand, Work};
+use crate::command::{FetchedCommand, FetchedWork};
 use crate::controller::Controller;
 use crate::manage::{act, end_of, view_of};
 use crate::post::post_completion;
 use crate::queue::ControllerQueue;
-use crate::refusal::Refusal;
+use crate::refusal::ControllerRefusal;
 use admin_commands::{SqState, decide};
 use block_image::Blocks;
 use entry_codec::{Status, SubEntry};
@@ -42,7 +42,7 @@ fn live_pair(queues: &[ControllerQueue], q: u16) -> Option<DevicePair>
 /// # Errors
 ///
 /// 1. `Idle`: nothing is rung. 2. `SlotOut`: a byte of its slot is missing.
-fn head_entry<D: Dma>(pair: &DevicePair, dma: &mut D) -> Result<SubEntry, Refusal>
+fn head_entry<D: Dma>(pair: &DevicePair, dma: &mut D) -> Result<SubEntry, ControllerRefusal>
     requires room { length (D.reached dma.old) ≤ 2 }
     ensures refusal { result_err result ≡ side_refusal (D.memory dma.old) pair.now }
     ensures some { IfOk result (λ e. pair.now.ring.head ≢ pair.now.ring.bell) }
@@ -55,14 +55,19 @@ fn head_entry<D: Dma>(pair: &DevicePair, dma: &mut D) -> Result<SubEntry, Refusa
 {
     match pair.next_entry(dma) {
         Ok(Some(entry)) => Ok(entry),
-        Ok(None) => Err(Refusal::Idle),
-        Err(_) => Err(Refusal::SlotOut),
+        Ok(None) => Err(ControllerRefusal::Idle),
+        Err(_) => Err(ControllerRefusal::SlotOut),
     }
 }
 
 impl ControllerQueue {
     /// Takes the entry at the head, and posts Command Identifier Conflict for it. Where that is refused nothing changed.
-    fn post_conflict<D: Dma>(&mut self, q: u16, cid: u16, dma: &mut D) -> Result<(), Refusal>
+    fn post_conflict<D: Dma>(
+        &mut self,
+        q: u16,
+        cid: u16,
+        dma: &mut D,
+    ) -> Result<(), ControllerRefusal>
         requires rung { self.old.controller.ring.head ≢ self.old.controller.ring.bell }
         requires room { length (D.reached dma.old) ≤ 2 }
         ensures refusal { result_err result ≡ post_refusal (D.memory dma.old) self.old.controller }
@@ -96,7 +101,7 @@ fn post_conflict_at<A: Allocator, D: Dma>(
     q: u16,
     cid: u16,
     dma: &mut D,
-) -> Result<(), Refusal>
+) -> Result<(), ControllerRefusal>
     requires there { q < length queues.old.items }
     requires rung { IfSome (slice_get queues.old.items q) (λ queue. queue.controller.ring.head ≢ queue.controller.ring.bell) }
     requires room { length (D.reached dma.old) ≤ 2 }
@@ -111,7 +116,7 @@ fn post_conflict_at<A: Allocator, D: Dma>(
 }
 
 /// A command as it is fetched.
-fn fetched<A: Allocator>(q: u16, work: Work<Job<A>>) -> FetchedCommand<Job<A>>
+fn fetched<A: Allocator>(q: u16, work: FetchedWork<Job<A>>) -> FetchedCommand<Job<A>>
     ensures { result ≡ command_of q work }
 {
     FetchedCommand {
@@ -124,7 +129,7 @@ fn fetched<A: Allocator>(q: u16, work: Work<Job<A>>) -> FetchedCommand<Job<A>>
 
 impl<A: Allocator + Copy, I: Blocks> Controller<A, I> {
     /// The entry at the head of a queue, or the first cause against it.
-    pub(crate) fn look<D: Dma>(&self, q: u16, dma: &mut D) -> Result<SubEntry, Refusal>
+    pub(crate) fn look<D: Dma>(&self, q: u16, dma: &mut D) -> Result<SubEntry, ControllerRefusal>
         requires room { length (D.reached dma.old) ≤ 2 }
         ensures refusal { result_err result ≡ look_refusal self.now (D.memory dma.old) q }
         ensures looks { IfOk result (λ e. LooksAt self.now (D.memory dma.old) (D.reached dma.old) q e (D.reached dma.new)) }
@@ -135,12 +140,12 @@ impl<A: Allocator + Copy, I: Blocks> Controller<A, I> {
         ensures pool { D.page_count dma.new ≡ D.page_count dma.old }
     {
         let Some(pair) = live_pair(&self.queues, q) else {
-            return Err(Refusal::Idle);
+            return Err(ControllerRefusal::Idle);
         };
         head_entry(&pair, dma)
     }
 
-    /// Takes the entry at the head of an I/O queue, and keeps the job that it begins as a command behind the others.
+    /// Takes the entry at the head of an I/O queue, and keeps the job that it begins as a command after the others.
     pub(crate) fn keep_job(&mut self, q: u16, job: Job<A>) -> Result<(), AllocError>
         requires there { q < length self.old.queues }
         requires rung { IfSome (slice_get self.old.queues q) (λ queue. queue.controller.ring.head ≢ queue.controller.ring.bell) }
@@ -150,12 +155,12 @@ impl<A: Allocator + Copy, I: Blocks> Controller<A, I> {
         ensures sound { IsController self.new }
         ensures refused { OnErr result (self.new ≡ self.old) }
     {
-        self.commands.put(fetched(q, Work::Io(job)))?;
+        self.commands.put(fetched(q, FetchedWork::Io(job)))?;
         take_entry(&mut self.queues, q);
         Ok(())
     }
 
-    /// Takes the entry at the head of queue 0, decides it and does what was decided, and keeps it as a command behind the others.
+    /// Takes the entry at the head of queue 0, decides it and does what was decided, and keeps it as a command after the others.
     fn manage_entry(&mut self, pages: u32, entry: SubEntry) -> Result<(), AllocError>
         requires there { 0 < length self.old.queues }
         requires rung { IfSome (slice_get self.old.queues 0) (λ queue. queue.controller.ring.head ≢ queue.controller.ring.bell) }
@@ -171,7 +176,7 @@ impl<A: Allocator + Copy, I: Blocks> Controller<A, I> {
         let (status, dw0) = end_of(verdict);
         let cid = entry.cid;
         self.commands
-            .put(fetched(0, Work::Admin { entry, status, dw0 }))?;
+            .put(fetched(0, FetchedWork::Admin { entry, status, dw0 }))?;
         take_entry(&mut self.queues, 0);
         act(&mut self.queues, &mut self.commands, cid, verdict);
         Ok(())
@@ -182,13 +187,13 @@ impl<A: Allocator + Copy, I: Blocks> Controller<A, I> {
     ///
     /// # Errors
     ///
-    /// As [`Controller::fetch`], behind the look. Then nothing changed.
+    /// As [`Controller::fetch`], after the look. Then nothing changed.
     pub(crate) fn take_at_once<D: Dma>(
         &mut self,
         q: u16,
         entry: SubEntry,
         dma: &mut D,
-    ) -> Result<bool, Refusal>
+    ) -> Result<bool, ControllerRefusal>
         requires there { q < length self.old.queues }
         requires rung { IfSome (slice_get self.old.queues q) (λ queue. queue.controller.ring.head ≢ queue.controller.ring.bell) }
         requires room { length (D.reached dma.old) ≤ 2 }
@@ -221,7 +226,7 @@ impl<A: Allocator + Copy> Controller<A> {
     /// here: an Abort stops its command, the deletion of a submission queue stops that queue and its commands, the deletion of a completion
     /// queue drops it, and a creation makes its queue, with empty rings at the pages that it names. An identifier that was fetched from the
     /// queue and not completed is completed at once, with Command Identifier Conflict. The list of the touched pages has one page at most
-    /// before. It gets the entry's page, and behind it that of such a completion.
+    /// before. It gets the entry's page, and after it that of such a completion.
     ///
     /// # Errors
     ///
@@ -229,7 +234,7 @@ impl<A: Allocator + Copy> Controller<A> {
     /// missing. Where the identifier is completed at once: 3. `Full`: the completion ring is full. 4. `SlotOut`: a byte of the
     /// completion's slot is missing. Else 5. `Memory`, where memory is refused. Then nothing changed but the touched list, which has the
     /// entry's page from the third on.
-    pub fn fetch<D: Dma>(&mut self, q: u16, dma: &mut D) -> Result<u16, Refusal>
+    pub fn fetch<D: Dma>(&mut self, q: u16, dma: &mut D) -> Result<u16, ControllerRefusal>
         requires room { length (D.reached dma.old) ≤ 1 }
         ensures fetches { Fetches self.old (D.page_count dma.old) (D.memory dma.old) (D.reached dma.old) q result self.new (D.memory dma.new) (D.reached dma.new) }
         ensures sound { IsController self.new }

@@ -32,7 +32,7 @@ pub fn lent_blocks_are_an_image()
     ensures completes { RefusesAsImage }
 {}
 
-/// Behind a reset, and behind one head that is rung then, nothing can be fetched, walked or completed, whatever the controller was; and behind
+/// After a reset, and after one head that is rung then, nothing can be fetched, walked or completed, whatever the controller was; and after
 /// one tail that is rung then, still nothing can be fetched from an I/O queue. The image is as it was. A second reset changes nothing.
 #[tactic(auto, using(crate::proofs::ResetQueues::reset_quiet, crate::proofs::ResetQueues::quiet_until_tail, crate::proofs::ResetQueues::idle_until_created, crate::proofs::ResetQueues::reset_once))]
 pub fn a_reset_leaves_nothing_to_do()

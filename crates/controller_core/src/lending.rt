@@ -11,7 +11,7 @@ ghost use Rattle.controller_core.specs.Opening.{opened};
 use crate::complete::finish_at;
 use crate::controller::{Controller, open_parts};
 use crate::queue::QueuePages;
-use crate::refusal::Refusal;
+use crate::refusal::ControllerRefusal;
 use block_image::{Away, Lent};
 use entry_codec::SubEntry;
 use io_commands::{begin_job, block_number, first_block, lacks_read};
@@ -24,7 +24,7 @@ use thiserror::Error;
 pub enum LentRefusal {
     /// As over an image.
     #[error("{0}")]
-    Refused(Refusal),
+    Refused(ControllerRefusal),
     /// The command wants these blocks, and not all of them are lent.
     #[error("{count} blocks from {slba} on are wanted, and not all of them are lent")]
     NotLent {
@@ -35,13 +35,13 @@ pub enum LentRefusal {
     },
 }
 
-impl From<Refusal> for LentRefusal {
+impl From<ControllerRefusal> for LentRefusal {
     ghost use Rattle.std.specs.Prelude.{◌≡◌};
     ghost use Rattle.controller_core.specs.declared.lending.LentRefusal.TheVariants as refusals;
 
     ghost from_gives = { λ why given. given ≡ refusals.Refused why };
 
-    fn from(why: Refusal) -> LentRefusal {
+    fn from(why: ControllerRefusal) -> LentRefusal {
         LentRefusal::Refused(why)
     }
 }
@@ -49,12 +49,12 @@ impl From<Refusal> for LentRefusal {
 impl From<AllocError> for LentRefusal {
     ghost use Rattle.std.specs.Prelude.{◌≡◌};
     ghost use Rattle.controller_core.specs.declared.lending.LentRefusal.TheVariants as refusals;
-    ghost use Rattle.controller_core.specs.declared.refusal.Refusal.TheVariants as causes;
+    ghost use Rattle.controller_core.specs.declared.refusal.ControllerRefusal.TheVariants as causes;
 
     ghost from_gives = { λ _ given. given ≡ refusals.Refused causes.Memory };
 
     fn from(_: AllocError) -> LentRefusal {
-        LentRefusal::Refused(Refusal::Memory)
+        LentRefusal::Refused(ControllerRefusal::Memory)
     }
 }
 
@@ -69,7 +69,7 @@ fn wants(entry: &SubEntry) -> LentRefusal
 }
 
 impl<A: Allocator + Copy> Controller<A, Away> {
-    /// A controller of a namespace of so many blocks, which are kept elsewhere. All else is as [`Controller::open`] opens it.
+    /// A controller of a namespace of this many blocks, which are kept elsewhere. All else is as [`Controller::open`] opens it.
     ///
     /// # Errors
     ///
@@ -100,7 +100,7 @@ impl<A: Allocator + Copy> Controller<A, Away> {
     ///
     /// # Errors
     ///
-    /// Those of [`Controller::fetch`], and `NotLent` where a Read begins and its blocks are not all lent: before it asks for memory, behind all
+    /// Those of [`Controller::fetch`], and `NotLent` where a Read begins and its blocks are not all lent: before it asks for memory, after all
     /// other causes. Then nothing changed but the touched list, which has the entry's page.
     pub fn fetch_over<D: Dma>(
         &mut self,
@@ -136,7 +136,7 @@ impl<A: Allocator + Copy> Controller<A, Away> {
     ///
     /// # Errors
     ///
-    /// Those of [`Controller::complete`], and `NotLent` where the blocks of such a command are not all lent: behind `Waits`, before the
+    /// Those of [`Controller::complete`], and `NotLent` where the blocks of such a command are not all lent: after `Waits`, before the
     /// completion is posted. Then nothing changed.
     pub fn complete_over<D: Dma>(
         &mut self,

@@ -5,7 +5,7 @@
 //! (NVM Express Base Specification 2.0, "Memory-based transport queue model", section 3.3.1, and "Controller Level Reset", section 3.7.2).
 //!
 //! The contract of each call holds for every memory, whatever stands there: for what it is refused, what it answers, which pages it
-//! touches, and what it leaves of the controller and of the memory. A call appends the pages that it touches to the touched list, behind
+//! touches, and what it leaves of the controller and of the memory. A call appends the pages that it touches to the touched list, after
 //! those that stand there, and asks for room: who wants to see what one call touched clears the list before it.
 //! [`Controller::next_step`] alone empties it, and leaves it empty.
 #![tactic(auto)]
@@ -28,9 +28,9 @@ mod waiting;
 mod walk;
 pub mod worked;
 
-pub use command::{FetchedCommand, Work};
+pub use command::{FetchedCommand, FetchedWork};
 pub use controller::{Controller, OpenRefused};
 pub use lending::LentRefusal;
 pub use look::ControllerStep;
 pub use queue::{ControllerQueue, QueuePages};
-pub use refusal::Refusal;
+pub use refusal::ControllerRefusal;

@@ -8,7 +8,7 @@ ghost use Rattle.page_memory.specs.Memory.{counted, TouchesMore};
 
 use crate::controller::Controller;
 use crate::queue::ControllerQueue;
-use crate::refusal::Refusal;
+use crate::refusal::ControllerRefusal;
 use block_image::Blocks;
 use page_memory::{Dma, TouchRecord};
 use queue_pair::DevicePair;
@@ -39,7 +39,7 @@ pub enum ControllerStep {
 }
 
 /// What a completion is refused for: the ring is full, or a byte of the slot at the tail is missing.
-fn post_cause<D: Dma>(pair: &DevicePair, dma: &mut D) -> Option<Refusal>
+fn post_cause<D: Dma>(pair: &DevicePair, dma: &mut D) -> Option<ControllerRefusal>
     requires room { length (D.reached dma.old) ≤ 2 }
     ensures cause { result ≡ post_refusal (D.memory dma.old) pair.now }
     ensures touched { length (D.reached dma.new) ≡ length (D.reached dma.old) + post_touches (D.memory dma.old) pair.now }
@@ -48,17 +48,21 @@ fn post_cause<D: Dma>(pair: &DevicePair, dma: &mut D) -> Option<Refusal>
     ensures pool { D.page_count dma.new ≡ D.page_count dma.old }
 {
     if pair.is_full() {
-        return Some(Refusal::Full);
+        return Some(ControllerRefusal::Full);
     }
     let mut slot = [0; 16];
     match dma.read(pair.post_address(), &mut slot) {
         Ok(()) => None,
-        Err(_) => Some(Refusal::SlotOut),
+        Err(_) => Some(ControllerRefusal::SlotOut),
     }
 }
 
 /// The same of a queue by its number.
-fn post_cause_at<D: Dma>(queues: &[ControllerQueue], q: u16, dma: &mut D) -> Option<Refusal>
+fn post_cause_at<D: Dma>(
+    queues: &[ControllerQueue],
+    q: u16,
+    dma: &mut D,
+) -> Option<ControllerRefusal>
     requires room { length (D.reached dma.old) ≤ 2 }
     ensures cause { result ≡ post_refusal_at queues.now (D.memory dma.old) q }
     ensures touched { length (D.reached dma.new) ≡ length (D.reached dma.old) + post_touches_at queues.now (D.memory dma.old) q }

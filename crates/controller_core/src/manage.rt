@@ -5,7 +5,7 @@ ghost use Rattle.std.specs.Option.{option_map_or};
 ghost use Rattle.controller_core.specs.Contents.{verdict_of_work, is_command};
 ghost use Rattle.controller_core.specs.Managing.{view_for, stopped_work, stopped_with_queue, status_of_verdict, dw0_of_verdict, commands_after, queues_after, NamesPages};
 
-use crate::command::{FetchedCommand, Work};
+use crate::command::{FetchedCommand, FetchedWork};
 use crate::commands::Commands;
 use crate::queue::ControllerQueue;
 use admin_commands::{AdminVerdict, DeviceView, SqState, command_of, queue_of};
@@ -23,7 +23,7 @@ fn is_walking<A: Allocator>(commands: &Commands<A>, q: u16, cid: u16) -> bool
     }
 }
 
-/// What the rule of an admin entry looks at, over a pool of so many pages.
+/// What the rule of an admin entry looks at, over a pool of this many pages.
 pub(crate) fn view_of<A: Allocator>(
     pages: u32,
     queues: &[ControllerQueue],
@@ -50,18 +50,18 @@ pub(crate) fn view_of<A: Allocator>(
     }
 }
 
-impl<A: Allocator> Work<Job<A>> {
+impl<A: Allocator> FetchedWork<Job<A>> {
     /// Ends a command that has no verdict.
     pub(crate) fn stop(&mut self, status: Status)
         ensures { self.new ≡ stopped_work status self.old }
     {
         match self {
-            Work::Io(job) => {
+            FetchedWork::Io(job) => {
                 if job.verdict().is_none() {
                     job.stop(status);
                 }
             }
-            Work::Admin { .. } => {}
+            FetchedWork::Admin { .. } => {}
         }
     }
 }

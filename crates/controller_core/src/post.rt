@@ -7,7 +7,7 @@ ghost use Rattle.queue_pair.specs.Rings.{completion_posted};
 ghost use Rattle.controller_core.specs.Posting.{post_refusal_at, post_refusal, completion_by, memory_posted, page_posted, Posts};
 
 use crate::queue::ControllerQueue;
-use crate::refusal::Refusal;
+use crate::refusal::ControllerRefusal;
 use entry_codec::{ComEntry, Hints, Status};
 use page_memory::Dma;
 use queue_pair::{DevicePair, PostFault};
@@ -25,7 +25,7 @@ pub(crate) fn post_completion<D: Dma>(
     status: Status,
     dw0: u32,
     dma: &mut D,
-) -> Result<(), Refusal>
+) -> Result<(), ControllerRefusal>
     requires fits { status.sct < 8 }
     requires room { length (D.reached dma.old) ≤ 2 }
     ensures refusal { result_err result ≡ post_refusal (D.memory dma.old) pair.old }
@@ -48,8 +48,8 @@ pub(crate) fn post_completion<D: Dma>(
     };
     match pair.post(dma, completion) {
         Ok(()) => Ok(()),
-        Err(PostFault::Full) => Err(Refusal::Full),
-        Err(PostFault::SlotOut) => Err(Refusal::SlotOut),
+        Err(PostFault::Full) => Err(ControllerRefusal::Full),
+        Err(PostFault::SlotOut) => Err(ControllerRefusal::SlotOut),
     }
 }
 
@@ -61,7 +61,7 @@ pub(crate) fn post_at<A: Allocator, D: Dma>(
     status: Status,
     dw0: u32,
     dma: &mut D,
-) -> Result<(), Refusal>
+) -> Result<(), ControllerRefusal>
     requires there { q < length queues.old.items }
     requires fits { status.sct < 8 }
     requires room { length (D.reached dma.old) ≤ 2 }

@@ -7,7 +7,7 @@ use thiserror::Error;
 
 /// Why a call was refused. Each call names those that it may answer, in the order of their checks.
 #[derive(Clone, Copy, Debug, PartialEq, Eq, Error)]
-pub enum Refusal {
+pub enum ControllerRefusal {
     /// There is nothing to fetch.
     #[error("there is nothing to fetch")]
     Idle,
@@ -34,13 +34,13 @@ pub enum Refusal {
     Memory,
 }
 
-impl From<AllocError> for Refusal {
+impl From<AllocError> for ControllerRefusal {
     ghost use Rattle.std.specs.Prelude.{◌≡◌};
-    ghost use Rattle.controller_core.specs.declared.refusal.Refusal.TheVariants as refusals;
+    ghost use Rattle.controller_core.specs.declared.refusal.ControllerRefusal.TheVariants as refusals;
 
     ghost from_gives = { λ _ why. why ≡ refusals.Memory };
 
-    fn from(_: AllocError) -> Refusal {
-        Refusal::Memory
+    fn from(_: AllocError) -> ControllerRefusal {
+        ControllerRefusal::Memory
     }
 }

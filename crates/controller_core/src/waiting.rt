@@ -5,7 +5,7 @@ ghost use Rattle.std.specs.List.{list_any};
 ghost use Rattle.controller_core.specs.Completing.{is_abort_of, waits_among, has_success as work_succeeds};
 ghost use Rattle.controller_core.specs.Contents.{AreAwaited, entry_of, entry_of_work, is_command};
 
-use crate::command::{FetchedCommand, Work};
+use crate::command::{FetchedCommand, FetchedWork};
 use crate::commands::Commands;
 use admin_commands::{command_of, queue_of};
 use entry_codec::SubEntry;
@@ -24,7 +24,7 @@ fn is_abort(waiting: Option<u16>, cid: u16) -> bool
 }
 
 /// Whether a command ended with success.
-fn has_success<A: Allocator>(work: &Work<Job<A>>) -> bool
+fn has_success<A: Allocator>(work: &FetchedWork<Job<A>>) -> bool
     ensures { result ≡ work_succeeds work.now }
 {
     match work.verdict() {

@@ -5,10 +5,10 @@ ghost use Rattle.std.specs.Result.{result_err};
 ghost use Rattle.controller_core.specs.Contents.{IsController};
 ghost use Rattle.controller_core.specs.Walking.{ended_refusal, refusal_among, walk_refusal, WalksOne, WalksTo};
 
-use crate::command::{FetchedCommand, Work};
+use crate::command::{FetchedCommand, FetchedWork};
 use crate::commands::Commands;
 use crate::controller::Controller;
-use crate::refusal::Refusal;
+use crate::refusal::ControllerRefusal;
 use block_image::Blocks;
 use controller_walk::WalkState;
 use io_commands::Job;
@@ -21,7 +21,7 @@ impl<A: Allocator> FetchedCommand<Job<A>> {
     /// # Errors
     ///
     /// `Nothing` where it has its verdict, as an admin command has from its fetch on. Then nothing changed.
-    pub(crate) fn walk<D: Dma>(&mut self, dma: &mut D) -> Result<WalkState, Refusal>
+    pub(crate) fn walk<D: Dma>(&mut self, dma: &mut D) -> Result<WalkState, ControllerRefusal>
         requires few { ended_refusal self.old ≡ None → self.old.units_done ≤ 12545 }
         requires room { length (D.reached dma.old) ≤ 2 }
         ensures refusal { result_err result ≡ ended_refusal self.old }
@@ -31,15 +31,15 @@ impl<A: Allocator> FetchedCommand<Job<A>> {
         ensures pool { D.page_count dma.new ≡ D.page_count dma.old }
     {
         match &mut self.work {
-            Work::Io(job) => {
+            FetchedWork::Io(job) => {
                 if job.verdict().is_some() {
-                    return Err(Refusal::Nothing);
+                    return Err(ControllerRefusal::Nothing);
                 }
                 let state = job.step(dma);
                 self.units_done += 1;
                 Ok(state)
             }
-            Work::Admin { .. } => Err(Refusal::Nothing),
+            FetchedWork::Admin { .. } => Err(ControllerRefusal::Nothing),
         }
     }
 }
@@ -50,14 +50,14 @@ impl<A: Allocator> Commands<A> {
     /// # Errors
     ///
     /// The first cause against it.
-    pub(crate) fn check_walk(&self, q: u16, cid: u16) -> Result<(), Refusal>
+    pub(crate) fn check_walk(&self, q: u16, cid: u16) -> Result<(), ControllerRefusal>
         ensures refusal { result_err result ≡ refusal_among self.now.list q cid }
     {
         let Some(command) = self.get(q, cid) else {
-            return Err(Refusal::NoJob);
+            return Err(ControllerRefusal::NoJob);
         };
         match command.work.verdict() {
-            Some(_) => Err(Refusal::Nothing),
+            Some(_) => Err(ControllerRefusal::Nothing),
             None => Ok(()),
         }
     }
@@ -72,7 +72,12 @@ impl<A: Allocator, I: Blocks> Controller<A, I> {
     ///
     /// 1. `NoJob`: there is no such command. 2. `Nothing`: it has its verdict already, as each admin command has. Then nothing
     /// changed, and no page was touched.
-    pub fn walk<D: Dma>(&mut self, q: u16, cid: u16, dma: &mut D) -> Result<WalkState, Refusal>
+    pub fn walk<D: Dma>(
+        &mut self,
+        q: u16,
+        cid: u16,
+        dma: &mut D,
+    ) -> Result<WalkState, ControllerRefusal>
         requires room { length (D.reached dma.old) ≤ 2 }
         ensures refusal { result_err result ≡ walk_refusal self.old q cid }
         ensures refused { OnErr result ((self.new ≡ self.old) × (D.memory dma.new ≡ D.memory dma.old) × (D.reached dma.new ≡ D.reached dma.old)) }

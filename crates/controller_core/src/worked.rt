@@ -15,11 +15,11 @@ ghost use Rattle.controller_core.specs.Lending.{entry_lacked, fetch_lacked, lent
 ghost use Rattle.controller_core.specs.Managing.{command_of, managed};
 ghost use Rattle.controller_core.specs.Walking.{WalksTo, walk_refusal};
 ghost use Rattle.controller_core.specs.Worked.{fresh, rung, memory_with_entry, with_read_begun, with_read_halfway, with_read_walked, with_read_completed, memory_with_data, memory_with_completion, wrong_opcode, status_bytes, create_cq, create_sq, memory_with_creations, without_queue, with_completion_made, with_queue_made, made_queue, with_abort, with_reset, with_reset_rung, block};
-ghost use Rattle.controller_core.specs.declared.command.Work.TheVariants.{Admin};
+ghost use Rattle.controller_core.specs.declared.command.FetchedWork.TheVariants.{Admin};
 ghost use Rattle.controller_core.specs.declared.lending.LentRefusal.TheVariants.{NotLent, Refused};
-ghost use Rattle.controller_core.specs.declared.refusal.Refusal.TheVariants as refusal;
+ghost use Rattle.controller_core.specs.declared.refusal.ControllerRefusal.TheVariants as refusal;
 
-/// A Read of one block, from the entry in memory to the completion in memory, with the pages that each call touches behind those that were touched before.
+/// A Read of one block, from the entry in memory to the completion in memory, with the pages that each call touches after those that were touched before.
 #[tactic(auto, using(crate::proofs::WorkedReads::first_fetch, crate::proofs::WorkedReads::first_unit, crate::proofs::WorkedReads::second_unit, crate::proofs::WorkedReads::first_completion), unfolding(page_memory::specs::Memory::bytes_at, sgl_descriptor::specs::Spelling::descriptor_of, entry_codec::specs::Submission::submission_of, entry_codec::specs::Completion::completion_bytes, controller_walk::specs::Units::moving, controller_walk::specs::Units::from_place))]
 pub fn worked_first_read()
     ensures fetch { FetchesTo rung 8 memory_with_entry [] 1 0 with_read_begun memory_with_entry (2 ∷ []) }
@@ -85,7 +85,7 @@ pub fn worked_refused_creations()
 {}
 
 /// A Read in the midst of its walk and the Abort that stopped it are gone after a reset, and nothing is fetched of what stands in the rings.
-/// The Read's queue is made again, from its entries in memory, as behind a deletion.
+/// The Read's queue is made again, from its entries in memory, as after a deletion.
 #[tactic(auto, using(crate::proofs::WorkedReads::completion_fetched, crate::proofs::WorkedReads::submission_fetched), unfolding(page_memory::specs::Memory::bytes_at, sgl_descriptor::specs::Spelling::descriptor_of, entry_codec::specs::Submission::submission_of, entry_codec::specs::Completion::completion_bytes, controller_walk::specs::Units::moving, controller_walk::specs::Units::from_place))]
 pub fn worked_reset()
     ensures before { length with_abort.commands ≡ 2 }

@@ -7,7 +7,7 @@ use crate::part::{SMALL, USUAL};
 use driver_threads::{Gate, GateClosed, JobRefusal, Point, RunFault, Server};
 use entry_codec::Status;
 use io_commands::Kind;
-use session_scripts::desk::runs::{Outcome, play, play_at};
+use session_scripts::desk::runs::{RunEnd, play, play_at};
 use session_scripts::desk::two_submitters::{
     ON_ONE_QUEUE, is_as_wanted, two_lists, writes_and_reads,
 };
@@ -196,7 +196,7 @@ impl Gate for Counting {
 }
 
 /// Sees what a run must leave, whatever the schedule. Waiting leaves no entry.
-fn see_left<R: Abort>(rt: &R, outcome: &Outcome, run: &Run) {
+fn see_left<R: Abort>(rt: &R, outcome: &RunEnd, run: &Run) {
     see_ends(
         rt,
         outcome.jobs.as_slice(),

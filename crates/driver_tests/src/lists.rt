@@ -8,7 +8,7 @@ use script_cli::transcripts::{Transcript, read_transcript, step_in};
 use std::alloc::{AllocError, Global};
 use std::process::Abort;
 use step_core::{Reply, StepIn};
-use test_support::{Refusal, Refusing};
+use test_support::{RefusedCalls, Refusing};
 use world_bench::Bench;
 
 /// Two blocks are read to two pages.
@@ -51,7 +51,7 @@ fn run<R: Abort>(rt: &R, alloc: Global, transcript: &Transcript, growth: u64) ->
     let Ok(mut bench) = Bench::open(&heap, USUAL, zeros(rt, &heap)) else {
         panic!(rt; "no bench");
     };
-    heap.refuse(Refusal::Nth(growth));
+    heap.refuse(RefusedCalls::Nth(growth));
     let wanting = match bench.run(steps) {
         Ok(replies) => {
             let mut wanting: usize = 0;
@@ -68,7 +68,7 @@ fn run<R: Abort>(rt: &R, alloc: Global, transcript: &Transcript, growth: u64) ->
         }
         Err(AllocError) => None,
     };
-    heap.refuse(Refusal::Never);
+    heap.refuse(RefusedCalls::Never);
     let _ended = bench.end();
     see_at(rt, growth, &heap.tally().blocks, &0);
     wanting

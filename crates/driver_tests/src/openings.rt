@@ -6,7 +6,7 @@ use crate::part::USUAL;
 use std::alloc::Global;
 use std::process::Abort;
 use step_core::{Config, OpenRefusal};
-use test_support::{Refusal, Refusing};
+use test_support::{RefusedCalls, Refusing};
 use world_bench::Bench;
 
 /// Two I/O queues of four entries over 24 pages, and segments of four descriptors.
@@ -22,7 +22,7 @@ const TWO_QUEUES: Config = Config {
 fn opens_twice<R: Abort>(rt: &R, alloc: Global, config: Config, growth: u64) -> bool {
     let heap = Refusing::new(alloc);
     let image = zeros(rt, &heap);
-    heap.refuse(Refusal::Nth(growth));
+    heap.refuse(RefusedCalls::Nth(growth));
     let back = match Bench::open(&heap, config, image) {
         Ok(bench) => {
             let _ended = bench.end();
@@ -35,7 +35,7 @@ fn opens_twice<R: Abort>(rt: &R, alloc: Global, config: Config, growth: u64) -> 
     };
     let is_refused = heap.tally().refused > 0;
     see_at(rt, growth, &back.is_some(), &is_refused);
-    heap.refuse(Refusal::Never);
+    heap.refuse(RefusedCalls::Never);
     if let Some(image) = back {
         match Bench::open(&heap, config, image) {
             Ok(bench) => {

@@ -16,7 +16,7 @@ use std::sync::Wait;
 use std::thread;
 use std::thread::Threads;
 use step_core::{Reaped, Refused, World};
-use test_support::{Refusal, Refusing};
+use test_support::{RefusedCalls, Refusing};
 
 /// How many threads read.
 const READERS: usize = 6;
@@ -193,7 +193,7 @@ fn reads_ask_for_the_memory_of_their_world_alone(rt: HostRuntime) {
     let rt = &rt;
     let heap = Refusing::new(rt.alloc());
     let shared = opened(rt, &heap);
-    heap.refuse(Refusal::Never);
+    heap.refuse(RefusedCalls::Never);
     for _ in 0..100 {
         let ticket = submitted(rt, &heap, &shared, 1);
         for _ in 0..4 {

@@ -13,7 +13,7 @@ use std::marker::Brand;
 use std::process::Abort;
 use std::sync::Wait;
 use step_core::{Config, Image};
-use test_support::{Refusal, Refusing};
+use test_support::{RefusedCalls, Refusing};
 
 /// The tables: the counts of the seats, the ends of commands, and those of queues.
 const TABLES: u64 = 3;
@@ -59,12 +59,12 @@ fn close_without_tables<'h, L: FullLogBrand, R: Abort + Wait>(
     };
     let missing = CloseFault::Missing { seat: 1, number: 1 };
     for growth in 1..=TABLES {
-        heap.refuse(Refusal::Nth(growth));
+        heap.refuse(RefusedCalls::Nth(growth));
         see_at(rt, growth, &desk.close().err(), &Some(missing));
         see_at(rt, growth, &heap.tally().refused, &1);
     }
     assert!(rt; desk.seats.push(last).is_ok());
-    heap.refuse(Refusal::Nth(1));
+    heap.refuse(RefusedCalls::Nth(1));
     match desk.close() {
         Ok(report) => see(rt, &report.submissions, &2),
         Err(why) => panic!(rt; "{why}"),

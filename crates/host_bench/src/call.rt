@@ -4,47 +4,9 @@ ghost use Rattle.std.specs.Prelude.{◌≡◌, length};
 
 use entry_codec::{Hints, Status};
 use host_core::Doorbell;
-use io_commands::{Draft, FillFault, Request};
+use io_commands::{Bytes, Draft, FillFault, Request};
 use machine_model::words::{Reaped, Refusal};
-use std::alloc::{Allocator, Global};
-use std::marker::Model;
-
-/// A list of bytes inside a call or a reply. Contracts see it as that list.
-#[derive(Debug, Drop)]
-pub struct Bytes<A: Allocator = Global> {
-    bytes: Vec<u8, A>,
-}
-
-impl<A: Allocator> Model for Bytes<A> {
-    ghost use Rattle.std.specs.Prelude.{List, ℕ};
-
-    ghost Value = { List ℕ };
-
-    ghost view = { λ b. b.bytes.items };
-}
-
-impl<A: Allocator> Bytes<A> {
-    /// The bytes of a vector, in order.
-    pub fn from_vec(bytes: Vec<u8, A>) -> Self
-        ensures { result ≡ bytes.items }
-    {
-        Bytes { bytes }
-    }
-
-    /// The bytes.
-    pub fn as_slice(&self) -> &[u8]
-        ensures { result.now ≡ self.now }
-    {
-        &self.bytes
-    }
-
-    /// The bytes, as a vector.
-    pub fn into_vec(self) -> Vec<u8, A>
-        ensures { result.items ≡ self }
-    {
-        self.bytes
-    }
-}
+use std::alloc::Allocator;
 
 /// A call of a host. Drafts, tickets and finished commands are named by their queue and identifier.
 #[derive(Drop)]

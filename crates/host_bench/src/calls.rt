@@ -11,13 +11,13 @@ ghost use Rattle.host_bench.specs.Reach.{WritesData, draft_data_at};
 ghost use Rattle.std.specs.Fn.{FnOnceReturnsAtMut};
 
 use crate::bench_tables::BenchTables;
-use crate::call::{Bytes, Call, CallIn, Reply, ReplyIn};
+use crate::call::{Call, CallIn, Reply, ReplyIn};
 use crate::fill::{build_row, fill_draft, no_memory, write_draft};
 use crate::values::{
     CommandValue, drop_row, finished_in, put_back, put_next, take_draft, take_finished, take_ticket,
 };
 use host_core::{Doorbell, Reap, Refused};
-use io_commands::Request;
+use io_commands::{Bytes, Request};
 use machine_model::words::Refusal;
 use std::alloc::Allocator;
 

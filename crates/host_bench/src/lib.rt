@@ -17,10 +17,11 @@ mod reach;
 pub mod values;
 
 pub use bench::HostBench;
-pub use call::{Bytes, Call, CallIn, Reply, ReplyIn};
+pub use call::{Call, CallIn, Reply, ReplyIn};
 pub use host_core::{
     AdminCommand, BlockRange, BlockSize, Config, Counts, DataPlace, Doorbell, FillFault, Flags,
     Hints, HostPositions, HostState, Kind, OpenRefusal, Owner, PageNo, PageUse, Piece, Pieces,
     QueueMemory, Reaped, Refusal, RejectedFor, Request, RequestFault, Right, Role, Run, Runs,
     Status, Unreadable,
 };
+pub use io_commands::Bytes;

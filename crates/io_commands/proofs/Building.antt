@@ -43,7 +43,7 @@ length-laid (s ∷ segments) (page ∷ pages) same = ap suc (length-laid segment
 
 -- What building a draft rests on.
 
--- a good request has so many blocks as its kind may have, and its pieces are just its bytes
+-- a good request has as many blocks as its kind may have, and its pieces are just its bytes
 pub has_count : (kind : Kind) (size : BlockSize) (blocks : ℕ) (pieces : List Piece) → fault_of kind size blocks pieces ≡ None → is_count kind size blocks ≡ true
 has_count kind size blocks pieces h = grind (arith, nat_tests)
 
@@ -236,7 +236,7 @@ front_pages r pages front n count is =
     let whole : length front ≡ data_count r.pieces = ap length is ∙ taken in
     omega arith
 
--- the pages behind those of the data pieces are as many as the chain needs
+-- the pages after those of the data pieces are as many as the chain needs
 pub rest_pages : (r : Request) (pages behind : PagesOut) (n : ℕ) → length pages ≡ data_count r.pieces + n → behind ≡ drop (data_count r.pieces) pages → length (numbers_of behind) ≡ n
 rest_pages r pages behind n count is = length-map behind (λ page. page.0) ∙ rw is (omega (arith, count, length-drop (data_count r.pieces) pages))
 
@@ -256,7 +256,7 @@ built_keeps d count h =
       built = built_again d count;
     }
 
--- a draft's contents, once its chain is laid behind its data pages
+-- a draft's contents, once its chain is laid after its data pages
 pub built_contents : (d : DraftContents) (items new : PagesOut) (n : ℕ) (segments : List (List Descriptor)) (entry : SubEntry) → n ≡ data_count d.request.pieces → n ≤ length items →
     d.data_pages ≡ take n items → d.chain_pages ≡ drop n items → new ≡ take n items ++ laid segments (drop n items) → segments ≡ draft_segments d → entry ≡ draft_entry d →
     ◌≡◌ {A = DraftContents} (record d { data_pages = take (data_count d.request.pieces) new; chain_pages = drop (data_count d.request.pieces) new; entry = Some entry }) (built d)
@@ -373,7 +373,7 @@ numbers_of-filled (Bucket len ∷ pieces) pages bytes = numbers_of-filled pieces
 numbers_of-filled (Data offset len ∷ pieces) [] bytes = refl
 numbers_of-filled (Data offset len ∷ pieces) (page ∷ pages) bytes = ap (λ (numbers : List ℕ). page.0 ∷ numbers) (numbers_of-filled pieces pages (drop len bytes))
 
--- the first pages are filled, and those behind stay
+-- the first pages are filled, and those after stay
 pub front : (pieces : List Piece) (n : ℕ) (pages : PagesOut) (bytes : List ℕ) → n ≤ length pages →
     take n (filled pieces (take n pages) bytes ++ drop n pages) ≡ filled pieces (take n pages) bytes
 front pieces n pages bytes few =

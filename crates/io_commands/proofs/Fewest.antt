@@ -73,7 +73,7 @@ abbrev Ends : Part → Bool → ℕ → Type 0
 Ends (part.Data addr len) fills n = (addr + len ≤ 4096 * n) × (fills ≡ eqb (addr + len) (4096 * n))
 Ends (part.Bucket len) fills n = fills ≡ false
 
--- a part that can take so many pages more
+-- a part that can take this many pages more
 abbrev Short : Part → ℕ → Type 0
 Short (part.Data addr len) k = len + 4096 * k < 4294967296
 Short (part.Bucket len) k = Unit {0}
@@ -101,7 +101,7 @@ both_end (part.Data addr size) fills n k offset len ends short fits is =
     let there : addr + size ≡ 4096 * n + offset = grind (arith, nat_tests) in
     ((omega arith, grind (arith, nat_tests)), omega arith)
 
--- the parts behind one
+-- the parts after one
 either_count : (b : Bool) (last : Part) (xs ys : List Part) (e : ℕ) → (b ≡ true → length xs ≡ 1 + e) → length ys ≡ 1 + e →
     length (if b then xs else last ∷ ys) ≡ 1 + ((if b then 0 else 1) + e)
 either_count true last xs ys e p q = let one : length xs ≡ 1 + e = p refl in omega arith
@@ -233,7 +233,7 @@ both_end_in (part.Data addr size) page offset len some fits is =
     let there : addr + size ≡ 4096 * page + offset = grind (arith, nat_tests) in
     (omega arith, omega arith, grind (arith, nat_tests))
 
--- the joined parts of pieces behind one
+-- the joined parts of pieces after one
 either_least : (b a : Bool) (last : Part) (xs ys : List Part) (e : ℕ) → (b ≡ true → a ≡ true) → (b ≡ true → 1 + e ≤ length xs) → 1 + e ≤ length ys →
     1 + ((if a then 0 else 1) + e) ≤ length (if b then xs else last ∷ ys)
 either_least true true last xs ys e also p q = let few : 1 + e ≤ length xs = p refl in omega arith

@@ -6,7 +6,7 @@ use Rattle.std.specs.Prelude.{slice_range}
 use Rattle.io_commands.specs.DataBytes.{PagesOut, data_length, gathered}
 use Rattle.io_commands.specs.declared.request.Piece.{Piece, TheVariants.{Data}}
 
--- a piece has its bytes at the front, and the pieces behind it have theirs behind them
+-- a piece has its bytes at the front, and the pieces after it have theirs after them
 pub piece_laid : (pieces others : List Piece) (piece : Piece) (offset len : ℕ) (pages behind : PagesOut) (page : ℕ × List ℕ) (into front back here rest : List ℕ)
     → pieces ≡ piece ∷ others → piece ≡ Data offset len → pages ≡ page ∷ behind → here ≡ slice_range page.1 offset (offset + len) → front ≡ here → back ≡ drop len into
     → rest ≡ gathered others behind ++ drop (sum_by data_length others) back

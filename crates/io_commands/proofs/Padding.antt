@@ -1,4 +1,4 @@
--- Bytes with zeros behind them, piece by piece.
+-- Bytes with zeros after them, piece by piece.
 use Rattle.std.proofs.Common.{◌≡◌, ℕ, zero, suc, Bool, false, nat_lt, List, [], ◌∷◌, ◌++◌, ◌+◌, ◌-◌, ◌<◌, ◌≤◌, ◌∙◌, refl, ap, sym, subst, cond, append_assoc, length-append, length, replicate, take, drop, sum_by, arith}
 use Rattle.std.proofs.lemmas.List.{length-drop, length-take-le, take_at, drop_at, drop-drop, take-replicate, drop-replicate}
 use Rattle.std.proofs.lemmas.{Bool.{or_parts, Decides.nat_tests}, List.Sums.{sum_by-cons}}
@@ -7,7 +7,7 @@ use Rattle.page_memory.specs.Pages.{with_bytes}
 use Rattle.io_commands.specs.{DataBytes.{PagesOut, data_length, filled}, Requests.{crosses_page, data_count, is_data}}
 use Rattle.io_commands.specs.declared.request.Piece.{Piece, TheVariants.{Data, Bucket}}
 
--- bytes are written behind other bytes
+-- bytes are written after other bytes
 pub written_behind : (page here zeros : List ℕ) (at : ℕ) → at + length here ≤ length page → with_bytes (with_bytes page at here) (at + length here) zeros ≡ with_bytes page at (here ++ zeros)
 written_behind page here zeros at fits =
     let front : List ℕ = take at page ++ here in
@@ -38,7 +38,7 @@ drop_padded (suc len) more (b ∷ bytes) =
     let whole : suc len + more - suc (length bytes) ≡ len + more - length bytes = omega arith in
     rw whole (drop_padded len more bytes)
 
--- a piece has what there is of the bytes, and zeros; the pieces behind it have the others
+-- a piece has what there is of the bytes, and zeros; the pieces after it have the others
 pub piece_filled : (pieces others : List Piece) (piece : Piece) (offset len : ℕ) (pages behind left : PagesOut) (page new : ℕ × List ℕ) (bytes here rest : List ℕ)
     → pieces ≡ piece ∷ others → piece ≡ Data offset len → pages ≡ page ∷ behind → here ≡ take len bytes → rest ≡ drop len bytes
     → new ≡ (page.0, with_bytes page.1 offset (here ++ replicate (len - length here) 0)) → left ≡ filled others behind (rest ++ replicate (sum_by data_length others - length rest) 0)
@@ -47,7 +47,7 @@ piece_filled pieces others piece offset len pages behind left page new bytes her
     let more : ℕ = sum_by data_length others in
     rw (are, is, there, sum_by-cons data_length (Data offset len) others, take_padded len more bytes, drop_padded len more bytes, wrote, filled_behind, first, last) refl
 
--- What is owed of the first piece, and of those behind it
+-- What is owed of the first piece, and of those after it
 
 owed : (pieces others : List Piece) (piece : Piece) → pieces ≡ piece ∷ others → list_any crosses_page pieces ≡ false → (crosses_page piece ≡ false) × (list_any crosses_page others ≡ false)
 owed pieces others piece are inside = or_parts (crosses_page piece) (list_any crosses_page others) (subst (λ (ps : List Piece). list_any crosses_page ps ≡ false) are inside)

@@ -9,7 +9,7 @@ block_bytes Bytes1024 = 1024
 block_bytes Bytes2048 = 2048
 block_bytes Bytes4096 = 4096
 
--- the size of so many bytes; none where no block has as many
+-- the size of this many bytes; none where no block has that many
 abbrev pub size_of : ℕ → Option BlockSize
 size_of bytes =
     if bytes == 512 then Some Bytes512

@@ -38,7 +38,7 @@ direction_by (Some kind) = direction_of kind
 abbrev pub direction_of_entry : SubEntry → Direction
 direction_of_entry e = direction_by (kind_of_opcode e.opcode)
 
--- the first failed field check of an entry, over an image of so many blocks
+-- the first failed field check of an entry, over an image of this many blocks
 abbrev pub io_fault : ℕ → SubEntry → Option Status
 io_fault blocks e =
     first_passing (
@@ -71,7 +71,7 @@ abbrev pub bytes_after_check : List ℕ → SubEntry → Option Status → List 
 bytes_after_check image e (Some fault) = []
 bytes_after_check image e None = first_bytes image e (kind_of_opcode e.opcode)
 
--- whether an entry begins a Read over an image of so many blocks, and lacks the blocks for it
+-- whether an entry begins a Read over an image of this many blocks, and lacks the blocks for it
 abbrev pub is_read : Option Kind → Bool
 is_read (Some Read) = true
 is_read kind = false
@@ -82,7 +82,7 @@ begins_read blocks e = is_none (io_fault blocks e) && is_read (kind_of_opcode e.
 abbrev pub lacks_read : (ℕ → ℕ → Bool) → ℕ → SubEntry → Bool
 lacks_read at_hand blocks e = not (at_hand (first_block e) (block_number e)) && begins_read blocks e
 
--- A job: an entry that was fetched, over an image of so many blocks, with the bytes that it moves. One that failed a field
+-- A job: an entry that was fetched, over an image of this many blocks, with the bytes that it moves. One that failed a field
 -- check has no walk. It completes once it has a verdict.
 pub record JobContents : Type 0 where
   pub blocks : ℕ
@@ -149,7 +149,7 @@ status_by image e bytes (Some Compare) =
     if bytes_eq (blocks_at image (first_block e) (block_number e)) bytes then SUCCESS else COMPARE_FAILURE
 status_by image e bytes kind = SUCCESS
 
--- the image behind it: a Write puts its bytes over its blocks
+-- the image after it: a Write puts its bytes over its blocks
 abbrev pub image_by : List ℕ → SubEntry → List ℕ → Option Kind → List ℕ
 image_by image e bytes (Some Write) = with_blocks image (first_block e) bytes
 image_by image e bytes kind = image
@@ -185,7 +185,7 @@ finished_status image job = status_after image job.entry job.bytes job.verdict
 abbrev pub finished_image : List ℕ → JobContents → List ℕ
 finished_image image job = image_after image job.entry job.bytes job.verdict
 
--- an entry for worked runs: an opcode, over so many blocks from a first one on
+-- an entry for worked runs: an opcode, over this many blocks from a first one on
 abbrev pub entry_over : ℕ → ℕ → ℕ → SubEntry
 entry_over opcode first blocks =
     record {

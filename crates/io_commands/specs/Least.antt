@@ -8,7 +8,7 @@ use Rattle.io_commands.specs.{Asked.Request, Requests.{data_count, parts_of, joi
 abbrev pub parts_in_a_run : List Piece → ℕ → List Part
 parts_in_a_run pieces first = parts_of pieces (range_with_len first (data_count pieces))
 
--- a page for each data piece, and those of the chain of parts, with segments of up to so many descriptors
+-- a page for each data piece, and those of the chain of parts, with segments of up to this many descriptors
 abbrev pub pages_with : List Piece → ℕ → List Part → ℕ
 pages_with pieces segment parts = data_count pieces + pages_needed (length parts) segment
 

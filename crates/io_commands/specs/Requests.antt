@@ -113,11 +113,11 @@ counted_length kind (Bucket len) = len
 abbrev pub counted_lengths : Kind → List Piece → ℕ
 counted_lengths kind pieces = sum_by (counted_length kind) pieces
 
--- how many bytes so many ranges have, 16 each; what names none has no bytes of them
+-- how many bytes this many ranges have, 16 each; what names none has no bytes of them
 abbrev pub need_of_ranges : Kind → ℕ → ℕ
 need_of_ranges kind ranges = if names_ranges kind then 16 * ranges else 0
 
--- how many bytes the pieces of a command of so many blocks of a size, or so many ranges, are together: one without a list has no piece
+-- how many bytes the pieces of a command of this many blocks of a size, or this many ranges, are together: one without a list has no piece
 abbrev pub need_of : Kind → BlockSize → ℕ → ℕ
 need_of kind size blocks = if moves_data kind then block_bytes size * blocks else need_of_ranges kind blocks
 

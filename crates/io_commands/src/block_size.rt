@@ -18,7 +18,7 @@ pub enum BlockSize {
 }
 
 impl BlockSize {
-    /// The size of so many bytes; none where no block has as many.
+    /// The size of this many bytes; none where no block has that many.
     pub fn of(bytes: u64) -> Option<BlockSize>
         ensures size { result ≡ size_of bytes }
         ensures some { IfSome result (λ size. block_bytes size ≡ bytes) }
@@ -59,7 +59,7 @@ impl BlockSize {
         }
     }
 
-    /// How many bytes so many blocks have, which a command may have.
+    /// How many bytes this many blocks have, which a command may have.
     pub fn bytes_of(self, blocks: u32) -> u32
         requires { blocks ≤ spec_most_blocks self }
         ensures bytes { result ≡ block_bytes self * blocks }

@@ -33,7 +33,7 @@ fn split_within(bytes: &[u8], len: usize) -> (&[u8], &[u8])
     }
 }
 
-/// Puts bytes into a page from an offset on, and zeros behind them up to a length.
+/// Puts bytes into a page from an offset on, and zeros after them up to a length.
 #[tactic(auto, using(crate::proofs::Padding::written_behind))]
 fn put_padded<A: Allocator>(page: &mut Page<A>, offset: usize, len: usize, bytes: &[u8])
     requires inside { offset + len ≤ 4096 }
@@ -44,7 +44,7 @@ fn put_padded<A: Allocator>(page: &mut Page<A>, offset: usize, len: usize, bytes
     page.set(offset + bytes.len(), zeros(len - bytes.len()));
 }
 
-/// Puts bytes into the data pieces, one piece after the other, and zeros behind them.
+/// Puts bytes into the data pieces, one piece after the other, and zeros after them.
 pub(crate) fn fill<A: Allocator>(pieces: &[Piece], pages: &mut [Page<A>], bytes: &[u8])
     requires inside { list_any crosses_page pieces.now ≡ false }
     requires enough { data_count pieces.now ≤ length pages.old }
@@ -66,7 +66,7 @@ pub(crate) fn fill<A: Allocator>(pieces: &[Piece], pages: &mut [Page<A>], bytes:
     }
 }
 
-/// Puts bytes into the data pieces of the first pages, and zeros behind them.
+/// Puts bytes into the data pieces of the first pages, and zeros after them.
 pub(crate) fn fill_first<A: Allocator>(
     pieces: &[Piece],
     pages: &mut Vec<Page<A>, A>,
@@ -110,7 +110,7 @@ pub(crate) fn push_data<A: Allocator, B: Allocator>(
     }
 }
 
-/// Lays the bytes of the data pieces at the front of others, one piece after the other.
+/// Lays the bytes of the data pieces at the start of others, one piece after the other.
 pub(crate) fn lay<A: Allocator>(pieces: &[Piece], pages: &[Page<A>], into: &mut [u8])
     requires inside { list_any crosses_page pieces.now ≡ false }
     requires enough { data_count pieces.now ≤ length pages.now }

@@ -183,7 +183,7 @@ impl<A: Allocator> Draft<A> {
         self.fill_padded(bytes)
     }
 
-    /// Puts the bytes into the data pieces, one piece after the other, and zeros behind them. Nothing else changes: a built
+    /// Puts the bytes into the data pieces, one piece after the other, and zeros after them. Nothing else changes: a built
     /// draft stays built.
     ///
     /// # Errors

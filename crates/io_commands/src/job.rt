@@ -262,11 +262,11 @@ impl<A: Allocator> Job<A> {
         ensures { result ≡ spec_lacks_blocks (I.at_hand image.now) self.now }
     {
         let number = block_number(&self.entry);
-        !image.has(first_block(&self.entry), number) && self.ends_over_blocks()
+        !image.has(first_block(&self.entry), number) && self.needs_blocks()
     }
 
     /// Whether the end of the job reads or writes blocks.
-    fn ends_over_blocks(&self) -> bool
+    fn needs_blocks(&self) -> bool
         ensures { result ≡ needs_blocks self.now }
     {
         match (self.verdict, kind_of(self.entry.opcode)) {
@@ -345,7 +345,7 @@ pub fn worked_fields()
     ensures need { need_of_entry (entry_over 0x02 0 8) ≡ 4096 }
 {}
 
-/// The field checks at their borders, over images of so many blocks, and which of them comes first.
+/// The field checks at their borders, over images of this many blocks, and which of them comes first.
 pub fn worked_checks()
     ensures passes { io_fault 65536 (entry_over 0x02 0 1) ≡ None }
     ensures opcode { io_fault 65536 (entry_over 0x03 0 1) ≡ Some Status.INVALID_OPCODE }

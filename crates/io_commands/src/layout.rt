@@ -22,7 +22,7 @@ pub(crate) fn data_in(page: PageNo, offset: u32, len: u32) -> Part
     Part::Data { addr, len }
 }
 
-/// The part of the first piece, with the pieces and the pages behind it; `None` where there is no piece, or no page for it.
+/// The part of the first piece, with the pieces and the pages after it; `None` where there is no piece, or no page for it.
 fn first_part<'a, B: Allocator>(
     pieces: &'a [Piece],
     pages: &'a [Page<B>],
@@ -54,7 +54,7 @@ fn numbers_of<A: Allocator, B: Allocator>(
     Ok(numbers)
 }
 
-/// Lays a segment and those behind it in pages, one in each.
+/// Lays a segment and those after it in pages, one in each.
 fn lay_from<A: Allocator, B: Allocator>(segment: &Segment<A>, pages: &mut [Page<B>])
     requires { length pages.old ≡ length (segments_from segment.now) }
     ensures { pages.new ≡ laid (segments_from segment.now) pages.old }

@@ -14,7 +14,7 @@ use page_memory::PageNo;
 use sgl_chain::{Part, join, pages_needed};
 use std::alloc::Allocator;
 
-/// How many parts the pieces are where each data piece stands in the page behind that of the one before, once parts that
+/// How many parts the pieces are where each data piece stands in the page after that of the one before, once parts that
 /// join are one. A data piece joins the piece before it where that is data up to the end of its page, and it begins its own.
 fn joined_count(pieces: &[Piece]) -> usize
     requires few { length pieces.now ≤ 1024 }
@@ -41,7 +41,7 @@ fn joined_count(pieces: &[Piece]) -> usize
     count
 }
 
-/// The part of the first piece, with the pieces and the pages behind it; `None` where there is no piece, or no page for it.
+/// The part of the first piece, with the pieces and the pages after it; `None` where there is no piece, or no page for it.
 fn next_part<'a>(
     pieces: &'a [Piece],
     pages: &'a [PageNo],
@@ -83,7 +83,7 @@ fn count_from(pieces: &[Piece], pages: &[PageNo]) -> usize
 }
 
 impl<A: Allocator> Request<A> {
-    /// The fewest pages that the request takes with segments of up to so many descriptors, 2 to 256: one for each data
+    /// The fewest pages that the request takes with segments of up to this many descriptors, 2 to 256: one for each data
     /// piece, and those of the chain of its parts where the data pages are consecutive ones, so that parts join. It takes
     /// no memory.
     pub fn least_pages(&self, segment: u16) -> u32
@@ -98,7 +98,7 @@ impl<A: Allocator> Request<A> {
     }
 
     /// How many chain pages the request takes where its data pieces stand in these pages, one for each, with segments of
-    /// up to so many descriptors, 2 to 256: parts that join are one. It takes no memory.
+    /// up to this many descriptors, 2 to 256: parts that join are one. It takes no memory.
     pub fn chain_pages(&self, pages: &[PageNo], segment: u16) -> u32
         requires good { IsGood self.now }
         requires pages { length pages.now ≡ data_count self.now.pieces }

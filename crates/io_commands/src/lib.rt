@@ -7,6 +7,7 @@
 
 mod admin;
 mod block_size;
+mod byte_list;
 mod data_bytes;
 mod draft;
 mod finished;
@@ -20,6 +21,7 @@ mod ticket;
 
 pub use admin::{AdminCommand, PageUse};
 pub use block_size::BlockSize;
+pub use byte_list::Bytes;
 pub use draft::{Draft, DraftParts, FillFault};
 pub use finished::{Finished, FinishedParts};
 pub use job::{

@@ -165,7 +165,7 @@ impl Kind {
         }
     }
 
-    /// Whether a command has so many blocks of a size, one to 1 MiB of them, or so many ranges, and none where it names none.
+    /// Whether a command has this many blocks of a size, one to 1 MiB of them, or this many ranges, and none where it names none.
     fn has_count(self, size: BlockSize, blocks: u32) -> bool
         ensures { result ≡ is_count self size blocks }
     {
@@ -176,7 +176,7 @@ impl Kind {
         }
     }
 
-    /// How many bytes the pieces of a command of so many blocks of a size, or so many ranges, are together.
+    /// How many bytes the pieces of a command of this many blocks of a size, or this many ranges, are together.
     fn need(self, size: BlockSize, blocks: u32) -> u64
         requires { blocks ≤ most_blocks size }
         ensures { result ≡ need_of self size blocks }
@@ -190,7 +190,7 @@ impl Kind {
         }
     }
 
-    /// Whether pieces, of which so many bytes count, are what a command of so many blocks of a size, or so many ranges, moves.
+    /// Whether pieces, of which this many bytes count, are what a command of this many blocks of a size, or this many ranges, moves.
     fn has_its_bytes(self, size: BlockSize, blocks: u32, pieces: &[Piece], counted: u64) -> bool
         requires few { blocks ≤ most_blocks size }
         requires counted { counted ≡ counted_lengths self pieces.now }
@@ -347,7 +347,7 @@ impl<A: Allocator> Pieces<A> {
         }
     }
 
-    /// No piece yet, with room for so many.
+    /// No piece yet, with room for this many.
     ///
     /// # Errors
     ///
@@ -360,7 +360,7 @@ impl<A: Allocator> Pieces<A> {
         })
     }
 
-    /// Puts a piece behind the others.
+    /// Puts a piece after the others.
     ///
     /// # Errors
     ///

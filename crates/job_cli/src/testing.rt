@@ -10,8 +10,8 @@ use block_image::{Image, ImageError};
 use driver_threads::Server;
 use page_ledger::Counts;
 use script_cli::transcripts::{
-    Answer, OPTIONS, OpeningFault, Options, Outcome, SaidOptions, Told, TranscriptFault, answer_of,
-    compared, text_of,
+    OPTIONS, OpeningFault, Options, Outcome, PrintedLine, SaidOptions, Told, TranscriptFault,
+    answer_of, compared, text_of,
 };
 use script_cli::{ImageFault, Line, RunFault, ScriptFault, append_counts, not_opened};
 use std::alloc::{AllocError, Global};
@@ -105,7 +105,7 @@ fn told_of(alloc: Global, text: &str, jobs: &[JobLine]) -> Result<Vec<Told>, All
         if let Some(answer) = answer_of(line) {
             let text = String::from_str(alloc, answer)?;
             if let Some(last) = told.last_mut() {
-                last.answers.push(Answer { number, text })?;
+                last.answers.push(PrintedLine { number, text })?;
             }
         } else if next.next_if(|job| job.number == number).is_some() {
             told.push(told_at(alloc, number))?;

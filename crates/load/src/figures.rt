@@ -17,7 +17,7 @@ pub struct Figures<'a> {
 }
 
 /// Who is told, while a load runs, what it came to so far.
-pub trait Report {
+pub trait ProgressReport {
     /// Takes it. What goes wrong with it is kept here, and ends no load.
     fn take(&mut self, so_far: &Figures<'_>);
 }

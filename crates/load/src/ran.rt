@@ -14,7 +14,7 @@ use std::fmt;
 
 /// What a load came to.
 #[derive(Drop)]
-pub struct Ran {
+pub struct LoadResult {
     /// How many commands ended how.
     pub tally: Tally,
     /// The first command that did not end well.
@@ -82,7 +82,7 @@ fn put_latencies(out: &mut String, name: &str, took: &Histogram) -> Result<(), A
     )
 }
 
-impl Ran {
+impl LoadResult {
     /// What it came to, for a report.
     pub fn figures(&self) -> Figures<'_>
         ensures tally { result.tally ≡ self.now.tally }

@@ -22,12 +22,12 @@ ghost use Rattle.script_cli.specs.Inputs.{Gains, IsFront};
 use crate::content::Content;
 use crate::course::Course;
 use crate::fault::LoadFault;
-use crate::figures::Report;
+use crate::figures::ProgressReport;
 use crate::layout::Layout;
 use crate::line::append_line;
 use crate::plan::Planned;
 use crate::progress::Interval;
-use crate::ran::Ran;
+use crate::ran::LoadResult;
 use crate::tally::Tally;
 use crate::task::{Found, Task, TaskEnds, TaskJob};
 use crate::timing::Timing;
@@ -187,7 +187,7 @@ fn command_bytes(load: &Load<'_>) -> u64
 }
 
 /// Runs the commands of a load, in rounds. Between rounds it tells how far it is, and what it came to so far.
-fn run_commands<R: Clock + Eprint + Threads + Wait + Sync, P: Report>(
+fn run_commands<R: Clock + Eprint + Threads + Wait + Sync, P: ProgressReport>(
     rt: &R,
     alloc: Global,
     world: World,
@@ -392,7 +392,11 @@ fn tell_end<W: Write>(
 /// [`LoadFault::TooFewBlocks`]; then why the opening is refused; then why a round did not run to its end. Nothing is written then. `Memory` where memory is refused, and
 /// `OutputFailed` where a write or the flush fails: a prefix of the line may then be written.
 #[tactic(auto, using(crate::proofs::Loads::nothing_written, crate::proofs::Loads::front_written))]
-pub fn run_load<R: AllocGlobal + Clock + Eprint + Threads + Wait + Sync, P: Report, W: Write>(
+pub fn run_load<
+    R: AllocGlobal + Clock + Eprint + Threads + Wait + Sync,
+    P: ProgressReport,
+    W: Write,
+>(
     rt: &R,
     config: Config,
     image: Image,
@@ -401,7 +405,7 @@ pub fn run_load<R: AllocGlobal + Clock + Eprint + Threads + Wait + Sync, P: Repo
     shows: bool,
     report: &mut P,
     writer: &mut W,
-) -> Result<Ran, LoadFault>
+) -> Result<LoadResult, LoadFault>
     requires fits { FitsLoad load.now }
     ensures ran { IfOk result (λ ran. HasRun config image load.now ran.tally) }
     ensures told { IfOk result (λ ran. Tells load.now.format load.now.pattern ran.tally (W.contents writer.old) (W.contents writer.new)) }
@@ -417,7 +421,7 @@ pub fn run_load<R: AllocGlobal + Clock + Eprint + Threads + Wait + Sync, P: Repo
     let tally = course.tally();
     tell_end(alloc, load, tally, writer)?;
     let (bad, measured) = course.end();
-    Ok(Ran {
+    Ok(LoadResult {
         tally,
         bad,
         measured,

@@ -4,10 +4,10 @@ use Rattle.nvmesgl_c.specs.{ControllerCalls.Lent, ControllerKept.Kept, Controlle
 use Rattle.nvmesgl_c.specs.declared.{controller.next.CStep.CStep, words.{answer.Answer.Answer, region.CRegion.CRegion}}
 use Rattle.controller_core.specs.{Contents.Contents, declared.look.ControllerStep.ControllerStep}
 use Rattle.page_memory.specs.Memory.{Memory}
-use Rattle.nvmesgl_c.specs.ControllerDevices.{DeviceContents}
+use Rattle.nvmesgl_c.specs.AnyControllers.{AnyContents}
 
 -- what a controller of either kind keeps
-abbrev pub contents : DeviceContents → Contents
+abbrev pub contents : AnyContents → Contents
 contents d = d.contents
 
 pub lent_called : (Calls : Contents → ℕ → Memory → ℕ → Answer → Contents → Memory → Type 0) (old new : Kept) (k held k' : Contents) (pool pool' : List ℕ) (code : ℕ) (answer : Answer) →

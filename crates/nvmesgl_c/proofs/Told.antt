@@ -3,7 +3,7 @@ use Rattle.std.proofs.Common.{◌≡◌, ℕ, List, [], Option, Some, None, Ok, 
 use Rattle.nvmesgl_c.specs.{Answers.{touching, walked}, ControllerCalls.{FetchesBy, WalksBy, CompletesBy, Completes, code_of_end}}
 use Rattle.nvmesgl_c.specs.{ControllerCodes.code_of_refusal, declared.words.answer.Answer.Answer}
 use Rattle.controller_core.specs.{Completing.{complete_refusal, CompletesTo}, Contents.Contents, Fetching.Fetches, Walking.{walk_refusal, WalksTo}}
-use Rattle.controller_core.specs.declared.refusal.Refusal.{Refusal}
+use Rattle.controller_core.specs.declared.refusal.ControllerRefusal.{ControllerRefusal}
 use Rattle.controller_walk.specs.declared.walk.WalkState.{WalkState}
 use Rattle.page_memory.specs.Memory.{Memory}
 
@@ -17,7 +17,7 @@ fetch_ok q k k' pages cid m m' reached touched shown told fresh fetches tells sh
       tells = (refl, ap (λ (a : Answer). record a { cid = cid }) (tells ∙ ap touching shows));
     }
 
-pub fetch_err : (q : ℕ) (k k' : Contents) (pages code : ℕ) (why : Refusal) (m m' : Memory) (reached touched shown : List ℕ) (told : Answer) → reached ≡ [] → Fetches k pages m reached q (Err why) k' m' touched →
+pub fetch_err : (q : ℕ) (k k' : Contents) (pages code : ℕ) (why : ControllerRefusal) (m m' : Memory) (reached touched shown : List ℕ) (told : Answer) → reached ≡ [] → Fetches k pages m reached q (Err why) k' m' touched →
     told ≡ touching shown → shown ≡ touched → code ≡ code_of_refusal why → FetchesBy q k pages m code told k' m'
 fetch_err q k k' pages code why m m' reached touched shown told fresh fetches tells shows codes =
     record {
@@ -38,7 +38,7 @@ walk_ok q cid k k' pages state m m' reached touched shown told fresh refusal wal
       tells = (refl, tells ∙ ap (walked state) shows);
     }
 
-pub walk_err : (q cid : ℕ) (k k' : Contents) (pages code : ℕ) (why : Refusal) (m m' : Memory) (reached touched shown : List ℕ) (told : Answer) → reached ≡ [] → Some why ≡ walk_refusal k q cid →
+pub walk_err : (q cid : ℕ) (k k' : Contents) (pages code : ℕ) (why : ControllerRefusal) (m m' : Memory) (reached touched shown : List ℕ) (told : Answer) → reached ≡ [] → Some why ≡ walk_refusal k q cid →
     (k' ≡ k) × (m' ≡ m) × (touched ≡ reached) → told ≡ touching shown → shown ≡ touched → code ≡ code_of_refusal why → WalksBy q cid k pages m code told k' m'
 walk_err q cid k k' pages code why m m' reached touched shown told fresh refusal kept tells shows codes =
     record {
@@ -54,17 +54,17 @@ pub complete_ok : (q cid : ℕ) (k k' : Contents) (pages : ℕ) (m m' : Memory) 
 complete_ok q cid k k' pages m m' reached touched shown told fresh refusal completes tells shows =
     record {
       touched = touched;
-      completes = subst (λ (o : Option Refusal). Completes k q cid m o k' m' touched) refusal (subst (λ (r : List ℕ). CompletesTo k q cid m r k' m' touched) fresh completes);
+      completes = subst (λ (o : Option ControllerRefusal). Completes k q cid m o k' m' touched) refusal (subst (λ (r : List ℕ). CompletesTo k q cid m r k' m' touched) fresh completes);
       code_is = ap code_of_end refusal;
       answer_is = tells ∙ ap touching shows;
     }
 
-pub complete_err : (q cid : ℕ) (k k' : Contents) (pages code : ℕ) (why : Refusal) (m m' : Memory) (reached touched shown : List ℕ) (told : Answer) → reached ≡ [] → Some why ≡ complete_refusal k m q cid →
+pub complete_err : (q cid : ℕ) (k k' : Contents) (pages code : ℕ) (why : ControllerRefusal) (m m' : Memory) (reached touched shown : List ℕ) (told : Answer) → reached ≡ [] → Some why ≡ complete_refusal k m q cid →
     (k' ≡ k) × (m' ≡ m) × (touched ≡ reached) → told ≡ touching shown → shown ≡ touched → code ≡ code_of_refusal why → CompletesBy q cid k pages m code told k' m'
 complete_err q cid k k' pages code why m m' reached touched shown told fresh refusal kept tells shows codes =
     record {
       touched = touched;
-      completes = subst (λ (o : Option Refusal). Completes k q cid m o k' m' touched) refusal (kept.0, kept.1, kept.2 ∙ fresh);
+      completes = subst (λ (o : Option ControllerRefusal). Completes k q cid m o k' m' touched) refusal (kept.0, kept.1, kept.2 ∙ fresh);
       code_is = codes ∙ ap code_of_end refusal;
       answer_is = tells ∙ ap touching shows;
     }

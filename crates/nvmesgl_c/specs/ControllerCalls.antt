@@ -4,7 +4,7 @@ use Rattle.std.specs.Prelude.{◌≡◌, ◌⊎◌, ◌/◌, ◌<◌, ◌≤◌,
 use Rattle.std.specs.Result.{result_err}
 use Rattle.nvmesgl_c.specs.{Answers.{nothing, touching, walked}, ControllerKept.{Kept, code_in}, ControllerCodes.code_of_refusal, declared.words.answer.Answer.Answer}
 use Rattle.controller_core.specs.{Completing.{complete_refusal, CompletesTo}, Contents.Contents, Doorbells.{tail_rung, head_rung}, Fetching.Fetches}
-use Rattle.controller_core.specs.{Resetting.reset, Walking.{walk_refusal, WalksTo}, declared.{queue.ControllerQueue.ControllerQueue, refusal.Refusal.Refusal}}
+use Rattle.controller_core.specs.{Resetting.reset, Walking.{walk_refusal, WalksTo}, declared.{queue.ControllerQueue.ControllerQueue, refusal.ControllerRefusal.ControllerRefusal}}
 use Rattle.controller_walk.specs.declared.walk.WalkState.{WalkState}
 use Rattle.page_memory.specs.Memory.{Memory}
 use Rattle.queue_pair.specs.Slots.{is_in_range}
@@ -38,38 +38,38 @@ Resets (Ok c) code new = (code ≡ 0) × (new ≡ Ok (reset c))
 -- The calls over a pool
 
 -- a fetch over a memory with this many pages: its result is told, with the pages that it touched
-abbrev pub TellsFetch : Result ℕ Refusal → List ℕ → ℕ → Answer → Type 0
+abbrev pub TellsFetch : Result ℕ ControllerRefusal → List ℕ → ℕ → Answer → Type 0
 TellsFetch (Ok cid) touched code answer = (code ≡ 0) × (answer ≡ record (touching touched) { cid = cid })
 TellsFetch (Err why) touched code answer = (code ≡ code_of_refusal why) × (answer ≡ touching touched)
 
 pub record FetchesBy (q : ℕ) (c : Contents) (pages : ℕ) (m : Memory) (code : ℕ) (answer : Answer) (c' : Contents) (m' : Memory) : Type 0 where
-  pub result : Result ℕ Refusal
+  pub result : Result ℕ ControllerRefusal
   pub touched : List ℕ
   pub fetches : Fetches c pages m [] q result c' m' touched
   pub tells : TellsFetch result touched code answer
 
 -- a unit of a command's list: how the list stands is told
-abbrev pub TellsWalk : Result WalkState Refusal → List ℕ → ℕ → Answer → Type 0
+abbrev pub TellsWalk : Result WalkState ControllerRefusal → List ℕ → ℕ → Answer → Type 0
 TellsWalk (Ok state) touched code answer = (code ≡ 0) × (answer ≡ walked state touched)
 TellsWalk (Err why) touched code answer = (code ≡ code_of_refusal why) × (answer ≡ touching touched)
 
-abbrev pub Walks : Contents → ℕ → ℕ → Memory → Result WalkState Refusal → Contents → Memory → List ℕ → Type 0
+abbrev pub Walks : Contents → ℕ → ℕ → Memory → Result WalkState ControllerRefusal → Contents → Memory → List ℕ → Type 0
 Walks c q cid m (Ok state) c' m' touched = WalksTo c q cid m [] state c' m' touched
 Walks c q cid m (Err why) c' m' touched = (c' ≡ c) × (m' ≡ m) × (touched ≡ [])
 
 pub record WalksBy (q cid : ℕ) (c : Contents) (pages : ℕ) (m : Memory) (code : ℕ) (answer : Answer) (c' : Contents) (m' : Memory) : Type 0 where
-  pub result : Result WalkState Refusal
+  pub result : Result WalkState ControllerRefusal
   pub touched : List ℕ
   pub refusal : result_err result ≡ walk_refusal c q cid
   pub walks : Walks c q cid m result c' m' touched
   pub tells : TellsWalk result touched code answer
 
 -- a completion: the page that was touched is told
-abbrev pub code_of_end : Option Refusal → ℕ
+abbrev pub code_of_end : Option ControllerRefusal → ℕ
 code_of_end None = 0
 code_of_end (Some why) = code_of_refusal why
 
-abbrev pub Completes : Contents → ℕ → ℕ → Memory → Option Refusal → Contents → Memory → List ℕ → Type 0
+abbrev pub Completes : Contents → ℕ → ℕ → Memory → Option ControllerRefusal → Contents → Memory → List ℕ → Type 0
 Completes c q cid m None c' m' touched = CompletesTo c q cid m [] c' m' touched
 Completes c q cid m (Some why) c' m' touched = (c' ≡ c) × (m' ≡ m) × (touched ≡ [])
 

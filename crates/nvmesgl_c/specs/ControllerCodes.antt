@@ -1,9 +1,9 @@
 -- The codes. They are those of `c/nvmesgl.h`.
 use Rattle.std.specs.Prelude.{ℕ}
-use Rattle.controller_core.specs.declared.refusal.Refusal.{Refusal}
-use Rattle.controller_core.specs.declared.refusal.Refusal.TheVariants as refusal
+use Rattle.controller_core.specs.declared.refusal.ControllerRefusal.{ControllerRefusal}
+use Rattle.controller_core.specs.declared.refusal.ControllerRefusal.TheVariants as refusal
 
-abbrev pub code_of_refusal : Refusal → ℕ
+abbrev pub code_of_refusal : ControllerRefusal → ℕ
 code_of_refusal refusal.Memory = 15
 code_of_refusal refusal.Idle = 28
 code_of_refusal refusal.SlotOut = 29

@@ -2,8 +2,8 @@
 use Rattle.std.specs.Option.{option_map_or}
 use Rattle.std.specs.Prelude.{◌≡◌, ◌⊎◌, ◌==◌, ◌<◌, ◌*◌, ⊤, ℕ, nat_lt, Option, Some, None, Result, Ok, Err, List, [], find, length, map, replicate, if◌then◌else◌}
 use Rattle.block_image.specs.Blocks.{IsPart, block_count, is_lent, shown}
-use Rattle.controller_core.specs.{Completing.CompletesTo, Contents.{Contents, FetchedCommand, Work, entry_of_work, is_command}, Lending.{FetchesLent, fetch_lacked, lacked, lent_refusal, with_image}, Opening.opened}
-use Rattle.controller_core.specs.declared.command.Work.TheVariants.{Io, Admin}
+use Rattle.controller_core.specs.{Completing.CompletesTo, Contents.{Contents, FetchedCommand, FetchedWork, entry_of_work, is_command}, Lending.{FetchesLent, fetch_lacked, lacked, lent_refusal, with_image}, Opening.opened}
+use Rattle.controller_core.specs.declared.command.FetchedWork.TheVariants.{Io, Admin}
 use Rattle.controller_core.specs.declared.lending.LentRefusal.{LentRefusal, TheVariants.{Refused, NotLent}}
 use Rattle.page_memory.specs.Memory.{Memory}
 use Rattle.nvmesgl_c.specs.{Answers.{nothing, touching}, Buffers.LaidIn, ControllerCodes.code_of_refusal, ControllerKept.{Kept, cause_in, code_in}, ControllerOptions.{fault_of, pages_of_queue}, NotOpening.code_of_not_opened}
@@ -118,7 +118,7 @@ StaysUnlent (Ok c) lent lent' old new = ⊤
 -- The bytes of a command
 
 -- those of a Read's blocks, and what a Write or a Compare fetched; an admin command has none
-abbrev pub bytes_of_work : Work → List ℕ
+abbrev pub bytes_of_work : FetchedWork → List ℕ
 bytes_of_work (Io job) = job.bytes
 bytes_of_work (Admin entry status dw0) = []
 

@@ -21,8 +21,8 @@ pub mod MachineKept
 pub mod MachineServing
 pub mod MachineWhole
 pub mod MachineCarried
-pub mod ControllerDevices
-pub mod ControllerDeviceOf
+pub mod AnyControllers
+pub mod AnyControllerOf
 pub mod ControllerCalls
 pub mod ControllerCodes
 pub mod ControllerLooks

@@ -2,7 +2,7 @@
 
 use crate::expecting::{same, same_at};
 use std::alloc::{AllocError, Allocator};
-use test_support::{Difference, Refusal, Refusing, Seen, Tally};
+use test_support::{Difference, RefusedCalls, Refusing, Seen, Tally};
 
 /// Four numbers, in a block that grows each time.
 fn four<A: Allocator>(alloc: A) -> Result<Vec<u64, A>, AllocError> {
@@ -25,17 +25,17 @@ fn calls(calls: u64, refused: u64) -> Tally {
 }
 
 /// What is to be refused from now on, if that changes; whether four numbers are made then; and the calls so far, and those that were refused.
-static ROWS: [(Option<Refusal>, bool, (u64, u64)); 10] = [
-    (Some(Refusal::Nth(1)), false, (1, 1)),
+static ROWS: [(Option<RefusedCalls>, bool, (u64, u64)); 10] = [
+    (Some(RefusedCalls::Nth(1)), false, (1, 1)),
     (None, true, (5, 1)),
-    (Some(Refusal::Nth(4)), false, (4, 1)),
+    (Some(RefusedCalls::Nth(4)), false, (4, 1)),
     (None, true, (8, 1)),
-    (Some(Refusal::Nth(5)), true, (4, 0)),
-    (Some(Refusal::NthOn(6)), true, (4, 0)),
+    (Some(RefusedCalls::Nth(5)), true, (4, 0)),
+    (Some(RefusedCalls::NthOn(6)), true, (4, 0)),
     (None, false, (6, 1)),
     (None, false, (7, 2)),
-    (Some(Refusal::Never), true, (4, 0)),
-    (Some(Refusal::NthOn(3)), false, (3, 1)),
+    (Some(RefusedCalls::Never), true, (4, 0)),
+    (Some(RefusedCalls::NthOn(3)), false, (3, 1)),
 ];
 
 /// Calls are refused on purpose, also where they are passed on by another allocator, which counts them as its own and refuses none.
@@ -50,7 +50,7 @@ fn refuses_what_it_is_told(rt: HostRuntime) {
         same_at(&rt, at, heap.tally(), calls(*asked, *refused));
     }
     let outer = Refusing::new(&heap);
-    heap.refuse(Refusal::NthOn(3));
+    heap.refuse(RefusedCalls::NthOn(3));
     same(&rt, four(&outer).is_ok(), false);
     same(
         &rt,

@@ -9,7 +9,7 @@ use sgl_chain::{Chain, Part};
 use slot_table::LinkedTable;
 use std::alloc::Global;
 use std::process::Abort;
-use test_support::{Refusal, Refusing};
+use test_support::{RefusedCalls, Refusing};
 
 /// A call that takes memory.
 #[derive(Clone, Copy)]
@@ -72,7 +72,7 @@ fn calls_are_done_once_no_growth_is_refused(rt: HostRuntime) {
     let heap = Refusing::new(alloc);
     for (at, (call, growths)) in GROWTHS.iter().enumerate() {
         for growth in 1..growths.saturating_add(2) {
-            heap.refuse(Refusal::Nth(growth));
+            heap.refuse(RefusedCalls::Nth(growth));
             let done = is_done(&heap, &chain, &request, *call);
             let tally = heap.tally();
             let is_enough = growth > *growths;
@@ -88,11 +88,11 @@ fn fill_twice<'a>(
     heap: &'a Refusing<Global>,
     table: &mut LinkedTable<u32, &'a Refusing<Global>>,
 ) {
-    heap.refuse(Refusal::Nth(1));
+    heap.refuse(RefusedCalls::Nth(1));
     assert!(rt; table.get(1, 0).is_none());
     same(rt, table.put(1, 0, 70), Err(70));
     same(rt, (table.len(), heap.tally().bytes), (0, 0));
-    for refusal in [Refusal::Never, Refusal::NthOn(1)] {
+    for refusal in [RefusedCalls::Never, RefusedCalls::NthOn(1)] {
         heap.refuse(refusal);
         table.clear();
         for cid in 0..100 {

@@ -19,4 +19,6 @@ mod guest_memory;
 #[cfg(test)]
 mod identify;
 #[cfg(test)]
+mod lent_blocks;
+#[cfg(test)]
 mod texts;

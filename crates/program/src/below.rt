@@ -4,7 +4,7 @@ ghost use Rattle.std.specs.Prelude.{◌≡◌};
 ghost use Rattle.command_line.specs.Asked.{given_of};
 ghost use Rattle.program.specs.Performing.{options_of};
 
-use command_line::Options;
+use command_line::CommandOptions;
 use script_cli::transcripts::{BadOption, OPTIONS, out_of_range};
 use script_cli::{LineFault, MAX_SCRIPT, RunFault, split_line, transcripts};
 use std::alloc::{AllocError, Global};
@@ -53,7 +53,7 @@ pub(crate) fn put_mark(
 }
 
 /// What a world is opened with, of the options of a command.
-pub(crate) fn world_of(options: &Options<'_>) -> transcripts::Options
+pub(crate) fn world_of(options: &CommandOptions<'_>) -> transcripts::Options
     ensures { result ≡ options_of (given_of options.now) }
 {
     transcripts::Options {
@@ -63,7 +63,7 @@ pub(crate) fn world_of(options: &Options<'_>) -> transcripts::Options
 }
 
 /// The options that lie outside of their ranges.
-fn bad_sizes(alloc: Global, options: &Options<'_>) -> Result<String, AllocError> {
+fn bad_sizes(alloc: Global, options: &CommandOptions<'_>) -> Result<String, AllocError> {
     out_of_range(alloc, &world_of(options).sizes())
 }
 
@@ -121,7 +121,7 @@ pub(crate) fn below_run(
     alloc: Global,
     grammar: Grammar,
     script: &[u8],
-    options: &Options<'_>,
+    options: &CommandOptions<'_>,
     fault: RunFault,
 ) -> String {
     match fault {

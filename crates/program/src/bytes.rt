@@ -4,7 +4,7 @@ ghost use Rattle.std.specs.Prelude.{IfErr};
 ghost use Rattle.program.specs.Performing.{IsBytesFault};
 
 use crate::below::lines_or_none;
-use crate::fault::{BytesFault, Fault, Told};
+use crate::fault::{BytesFault, Fault, FaultReport};
 use crate::inputs::script_text;
 use crate::printing::print_text;
 use entry_codec::Status;
@@ -14,7 +14,7 @@ use std::io::{Read, Write};
 use std::rt::Files;
 use texts::faults::nearest;
 use views::explain::{
-    Answer, CaseFault, Layout, Shown, explain_text, fault_lines, put_fault_object, show,
+    CaseFault, Explained, Layout, Shown, explain_text, fault_lines, put_fault_object, show,
 };
 
 /// An object, if there was memory for it.
@@ -31,16 +31,16 @@ fn at_fault<W: Write>(
     fault: CaseFault,
     layout: Layout,
     writer: &mut W,
-) -> Told<Fault>
+) -> FaultReport<Fault>
     ensures { IsBytesFault result.fault }
 {
     if layout == Layout::Lines {
         let below = lines_or_none(alloc, fault_lines(alloc, text, fault));
         let fault = Fault::Bytes(BytesFault::Case(fault));
-        return Told::of(fault, below);
+        return FaultReport::of(fault, below);
     }
     match print_text(alloc, fault_object(alloc, fault), writer) {
-        Ok(()) => Told::alone(alloc, Fault::Bytes(BytesFault::Answered(fault))),
+        Ok(()) => FaultReport::alone(alloc, Fault::Bytes(BytesFault::Answered(fault))),
         Err(told) => told,
     }
 }
@@ -50,19 +50,19 @@ fn case_text<R: AllocGlobal + Files, I: Read>(
     rt: &R,
     path: Option<&str>,
     reader: &mut I,
-) -> Result<Vec<u8>, Told<Fault>>
+) -> Result<Vec<u8>, FaultReport<Fault>>
     ensures fault { IfErr result (λ told. IsBytesFault told.fault) }
 {
     match script_text(rt, path, reader) {
         Ok(text) => Ok(text),
         Err(
-            Told {
+            FaultReport {
                 fault: RunFault::Unreadable,
                 place: _,
                 below,
             },
-        ) => Err(Told::of(Fault::Bytes(BytesFault::Unreadable), below)),
-        Err(told) => Err(Told::alone(rt.alloc(), Fault::Run(told.fault))),
+        ) => Err(FaultReport::of(Fault::Bytes(BytesFault::Unreadable), below)),
+        Err(told) => Err(FaultReport::alone(rt.alloc(), Fault::Run(told.fault))),
     }
 }
 
@@ -70,14 +70,14 @@ fn case_text<R: AllocGlobal + Files, I: Read>(
 const KINDS: [&str; 5] = ["sqe", "admin", "cqe", "sgl", "status"];
 
 /// What is told of a word that names no kind of bytes.
-fn unknown_kind(alloc: Global, word: &str) -> Told<Fault>
+fn unknown_kind(alloc: Global, word: &str) -> FaultReport<Fault>
     ensures { IsBytesFault result.fault }
 {
     let below = match nearest(alloc, word.as_bytes(), &KINDS) {
         Ok(Some(kind)) => { lines_or_none(alloc, format!(in alloc; "did you mean '{kind}'?\n")) }
         _ => String::new(alloc),
     };
-    Told::of(Fault::Bytes(BytesFault::UnknownKind), below)
+    FaultReport::of(Fault::Bytes(BytesFault::UnknownKind), below)
 }
 
 /// Explains the command of a case.
@@ -87,18 +87,18 @@ pub(crate) fn explain_case<R: AllocGlobal + Files, I: Read, W: Write>(
     layout: Layout,
     reader: &mut I,
     writer: &mut W,
-) -> Result<(), Told<Fault>>
+) -> Result<(), FaultReport<Fault>>
     ensures fault { IfErr result (λ told. IsBytesFault told.fault) }
 {
     let alloc = rt.alloc();
     let case = case_text(rt, path, reader)?;
     match explain_text(rt, path, &case, layout) {
-        Ok(Answer { text, status }) => {
+        Ok(Explained { text, status }) => {
             print_text(alloc, Ok(text), writer)?;
             if status == Status::SUCCESS {
                 Ok(())
             } else {
-                Err(Told::alone(alloc, Fault::Bytes(BytesFault::Refused)))
+                Err(FaultReport::alone(alloc, Fault::Bytes(BytesFault::Refused)))
             }
         }
         Err(fault) => Err(at_fault(alloc, &case, fault, layout, writer)),
@@ -121,12 +121,12 @@ pub(crate) fn show_words<R: AllocGlobal + Files, W: Write>(
     words: &[&str],
     layout: Layout,
     writer: &mut W,
-) -> Result<(), Told<Fault>>
+) -> Result<(), FaultReport<Fault>>
     ensures fault { IfErr result (λ told. IsBytesFault told.fault) }
 {
     let alloc = rt.alloc();
     let Some((first, others)) = words.split_first() else {
-        return Err(Told::alone(alloc, Fault::Bytes(BytesFault::UnknownKind)));
+        return Err(FaultReport::alone(alloc, Fault::Bytes(BytesFault::UnknownKind)));
     };
     let Some(what) = Shown::named(first) else {
         return Err(unknown_kind(alloc, first));

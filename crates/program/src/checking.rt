@@ -6,7 +6,7 @@ ghost use Rattle.program.specs.Performing.{line_said};
 ghost use Rattle.script_cli.specs.Options.{AreFew};
 
 use crate::below::{below_options, below_script, lines_or_none, place_of_option, put_mark};
-use crate::fault::{Fault, Told};
+use crate::fault::{Fault, FaultReport};
 use crate::places::{column_of, place, put_head};
 use job_cli::read_jobs;
 use script_cli::transcripts::{BadOption, SaidOptions, ScriptKind};
@@ -109,7 +109,7 @@ fn told_of(
     path: Option<&str>,
     script: &[u8],
     fault: RunFault,
-) -> Told<RunFault>
+) -> FaultReport<RunFault>
     ensures { result.fault ≡ fault }
 {
     let (place, below) = match fault {
@@ -119,7 +119,7 @@ fn told_of(
         ),
         _ => (None, below_script(alloc, grammar, script, fault)),
     };
-    Told {
+    FaultReport {
         fault,
         place,
         below,
@@ -153,7 +153,7 @@ pub(crate) fn read_options(
     grammar: Grammar,
     path: Option<&str>,
     script: &[u8],
-) -> Result<SaidOptions, Told<Fault>>
+) -> Result<SaidOptions, FaultReport<Fault>>
     ensures said { IfOk result (λ said. line_said kind script.now ≡ Some said) }
     ensures few { IfOk result (λ said. AreFew said.submitters) }
     ensures fault { IfErr result (λ told. told.fault ≡ Fault.BadOptions) }
@@ -167,7 +167,7 @@ pub(crate) fn read_options(
                 None,
                 String::new(alloc),
             ));
-            Err(Told {
+            Err(FaultReport {
                 fault: Fault::BadOptions,
                 place,
                 below,
@@ -181,7 +181,7 @@ pub(crate) fn check_steps(
     alloc: Global,
     path: Option<&str>,
     script: &[u8],
-) -> Result<(), Told<RunFault>>
+) -> Result<(), FaultReport<RunFault>>
     ensures steps { OnOk result (AreSteps script.now) }
     ensures fault { IfErr result (λ told. AreNoSteps script.now told.fault) }
 {
@@ -200,7 +200,7 @@ pub(crate) fn check_jobs(
     path: Option<&str>,
     script: &[u8],
     submitters: u16,
-) -> Result<(), Told<RunFault>>
+) -> Result<(), FaultReport<RunFault>>
     ensures jobs { OnOk result (AreJobs submitters script.now) }
     ensures fault { IfErr result (λ told. AreNoJobs submitters script.now told.fault) }
 {

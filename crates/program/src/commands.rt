@@ -8,7 +8,7 @@ ghost use Rattle.program.specs.Performing.{FailsWith, is_file, IsEndFault, IsNoG
 use crate::below::below_run;
 use crate::bytes::{explain_case, show_words};
 use crate::checking::{check_jobs, check_steps, read_options};
-use crate::fault::{Fault, Told};
+use crate::fault::{Fault, FaultReport};
 use crate::inputs::{Begun, begin_jobs, begin_steps, open_image, script_text};
 use crate::loading::load_image;
 use crate::pipe::Pipe;
@@ -17,7 +17,7 @@ use crate::printing::print_text;
 use crate::saving::save_image;
 use crate::serving::server_of;
 use crate::testing::test_files;
-use command_line::{CommandLine, Options, Serving, Testing, Threading, words};
+use command_line::{CommandLine, CommandOptions, Serving, Testing, Threading, words};
 use job_cli::{Form, Pace, run_jobs};
 use script_cli::transcripts::ScriptKind;
 use script_cli::{MAX_SCRIPT, Played, RunFault, play_steps, transcripts};
@@ -72,7 +72,7 @@ pub fn run<R: AllocGlobal + Clock + Env + Eprint + Files + Input + Print + Sync 
 fn start<R: AllocGlobal + Clock + Env + Eprint + Files + Input + Print + Sync + Threads + Wait>(
     rt: &R,
     terminals: Terminals,
-) -> Result<(), Told<Fault>> {
+) -> Result<(), FaultReport<Fault>> {
     let words = match words(rt) {
         Ok(words) => words,
         Err(why) => return Fault::shown(rt, why),
@@ -82,12 +82,12 @@ fn start<R: AllocGlobal + Clock + Env + Eprint + Files + Input + Print + Sync + 
     let end = perform(rt, words.as_slice(), &mut reader, &mut writer, terminals);
     match end {
         Err(
-            Told {
+            FaultReport {
                 fault: Fault::Run(RunFault::OutputFailed),
                 place: _,
                 below,
             },
-        ) if writer.is_closed() => Err(Told::of(Fault::PipeClosed, below)),
+        ) if writer.is_closed() => Err(FaultReport::of(Fault::PipeClosed, below)),
         end => end,
     }
 }
@@ -109,7 +109,7 @@ pub fn perform<
     reader: &mut I,
     writer: &mut W,
     terminals: Terminals,
-) -> Result<(), Told<Fault>>
+) -> Result<(), FaultReport<Fault>>
     ensures ran { OnOk result (Performs (I.remaining reader.old) (asked (map S.text words.now)) (W.contents writer.old) (W.contents writer.new)) }
     ensures failed { IfErr result (λ told. FailsWith (I.remaining reader.old) (asked (map S.text words.now)) (W.contents writer.old) (W.contents writer.new) told.fault) }
 {
@@ -160,13 +160,17 @@ fn layout_of(objects: bool) -> Layout {
 }
 
 /// The end of a run in which this many answers were not well: a fault, where that is asked for.
-fn end_strictly(alloc: Global, options: Options<'_>, unwell: u64) -> Result<(), Told<Fault>>
+fn end_strictly(
+    alloc: Global,
+    options: CommandOptions<'_>,
+    unwell: u64,
+) -> Result<(), FaultReport<Fault>>
     ensures unwell { IfErr result (λ told. IsUnwell (given_of options.entry) told.fault) }
     ensures some { OnErr result (unwell ≡ 0 → ⊥) }
     ensures well { OnOk result ((given_of options.entry).strict ≡ true → unwell ≡ 0) }
 {
     if options.strict && unwell > 0 {
-        return Err(Told::alone(alloc, Fault::Unwell));
+        return Err(FaultReport::alone(alloc, Fault::Unwell));
     }
     Ok(())
 }
@@ -174,10 +178,10 @@ fn end_strictly(alloc: Global, options: Options<'_>, unwell: u64) -> Result<(), 
 /// The end of a run that left a bench, and in which this many answers were not well: its image is saved.
 fn end_steps<R: AllocGlobal + Files + Print>(
     rt: &R,
-    options: Options<'_>,
+    options: CommandOptions<'_>,
     bench: Bench,
     unwell: u64,
-) -> Result<(), Told<Fault>>
+) -> Result<(), FaultReport<Fault>>
     ensures end { IfErr result (λ told. IsEndFault (given_of options.entry) told.fault) }
     ensures some { IfErr result (λ told. told.fault ≡ Fault.Unwell → unwell ≡ 0 → ⊥) }
     ensures well { OnOk result ((given_of options.entry).strict ≡ true → unwell ≡ 0) }
@@ -195,22 +199,22 @@ fn told_of_run(
     alloc: Global,
     grammar: Grammar,
     text: &[u8],
-    options: &Options<'_>,
+    options: &CommandOptions<'_>,
     fault: RunFault,
-) -> Told<Fault>
+) -> FaultReport<Fault>
     ensures { result.fault ≡ Fault.Run fault }
 {
     let below = below_run(alloc, grammar, text, options, fault);
-    Told::of(Fault::Run(fault), below)
+    FaultReport::of(Fault::Run(fault), below)
 }
 
 /// Plays a script of steps.
 fn play<R: AllocGlobal + Files + Print, I: Read, W: Write>(
     rt: &R,
-    options: Options<'_>,
+    options: CommandOptions<'_>,
     reader: &mut I,
     writer: &mut W,
-) -> Result<(), Told<Fault>>
+) -> Result<(), FaultReport<Fault>>
     ensures ran { OnOk result (Performs (I.remaining reader.old) (Some (steps (given_of options.entry))) (W.contents writer.old) (W.contents writer.new)) }
     ensures failed { IfErr result (λ told. FailsWith (I.remaining reader.old) (Some (steps (given_of options.entry))) (W.contents writer.old) (W.contents writer.new) told.fault) }
 {
@@ -240,11 +244,11 @@ fn telling_of(objects: bool) -> Telling
 /// Plays a script of steps, and tells what each moved, in lines or as objects.
 fn trace_script<R: AllocGlobal + Files + Print, I: Read, W: Write>(
     rt: &R,
-    options: Options<'_>,
+    options: CommandOptions<'_>,
     objects: bool,
     reader: &mut I,
     writer: &mut W,
-) -> Result<(), Told<Fault>>
+) -> Result<(), FaultReport<Fault>>
     ensures ran { OnOk result (Performs (I.remaining reader.old) (Some (traced (given_of options.entry) objects)) (W.contents writer.old) (W.contents writer.new)) }
     ensures failed { IfErr result (λ told. FailsWith (I.remaining reader.old) (Some (traced (given_of options.entry) objects)) (W.contents writer.old) (W.contents writer.new) told.fault) }
 {
@@ -286,14 +290,14 @@ fn pace_of(threading: Threading, serving: Serving, form: Form, shows: bool) -> P
 /// Runs a script of jobs, and tells how they ended, in lines or as objects.
 fn run_threads<R: AllocGlobal + Clock + Eprint + Files + Sync + Threads + Wait, I: Read, W: Write>(
     rt: &R,
-    options: Options<'_>,
+    options: CommandOptions<'_>,
     threading: Threading,
     serving: Serving,
     form: Form,
     shows: bool,
     reader: &mut I,
     writer: &mut W,
-) -> Result<(), Told<Fault>>
+) -> Result<(), FaultReport<Fault>>
     requires some { 1 ≤ threading.submitters }
     requires few { threading.submitters ≤ 16 }
     requires at_least_one { 1 ≤ threading.depth }
@@ -333,7 +337,7 @@ fn look_at_steps<R: AllocGlobal + Files, I: Read>(
     rt: &R,
     path: Option<&str>,
     reader: &mut I,
-) -> Result<(), Told<Fault>>
+) -> Result<(), FaultReport<Fault>>
     ensures steps { OnOk result (LooksAtSteps (script_told (path_of path.entry) (I.remaining reader.old))) }
     ensures fault { IfErr result (λ told. IsNoSteps (script_told (path_of path.entry) (I.remaining reader.old)) told.fault) }
 {
@@ -350,7 +354,7 @@ fn look_at_jobs<R: AllocGlobal + Files, I: Read>(
     path: Option<&str>,
     submitters: u16,
     reader: &mut I,
-) -> Result<(), Told<Fault>>
+) -> Result<(), FaultReport<Fault>>
     ensures jobs { OnOk result (LooksAtJobs (script_told (path_of path.entry) (I.remaining reader.old)) submitters) }
     ensures fault { IfErr result (λ told. IsNoJobScript (script_told (path_of path.entry) (I.remaining reader.old)) submitters told.fault) }
 {
@@ -368,7 +372,7 @@ fn test<R: AllocGlobal + Clock + Eprint + Files + Sync + Threads + Wait, I: Read
     testing: &Testing<'_>,
     reader: &mut I,
     writer: &mut W,
-) -> Result<(), Told<Fault>>
+) -> Result<(), FaultReport<Fault>>
     ensures fault { IfErr result (λ told. IsTestFault told.fault) }
 {
     let usual = transcripts::Options {
@@ -380,17 +384,17 @@ fn test<R: AllocGlobal + Clock + Eprint + Files + Sync + Threads + Wait, I: Read
         Ok(tally) => Fault::Transcripts(tally),
         Err(fault) => Fault::Run(fault),
     };
-    Err(Told::alone(rt.alloc(), fault))
+    Err(FaultReport::alone(rt.alloc(), fault))
 }
 
 /// Answers the lines of a file, whose first may say the options.
 fn answer_file<R: AllocGlobal + Files + Print, I: Read, W: Write>(
     rt: &R,
-    options: Options<'_>,
+    options: CommandOptions<'_>,
     traces: bool,
     reader: &mut I,
     writer: &mut W,
-) -> Result<(), Told<Fault>>
+) -> Result<(), FaultReport<Fault>>
     requires file { is_file (path_of options.script) ≡ true }
     ensures failed { IfErr result (λ told. FailsWith (I.remaining reader.old) (Some (shell (given_of options.entry) traces)) (W.contents writer.old) (W.contents writer.new) told.fault) }
 {
@@ -413,12 +417,12 @@ fn answer_file<R: AllocGlobal + Files + Print, I: Read, W: Write>(
 /// Answers the lines of a reader.
 fn answer_reader<R: AllocGlobal + Files + Print, I: Read, W: Write>(
     rt: &R,
-    options: Options<'_>,
+    options: CommandOptions<'_>,
     traces: bool,
     reader: &mut I,
     writer: &mut W,
     is_terminal: bool,
-) -> Result<(), Told<Fault>>
+) -> Result<(), FaultReport<Fault>>
     requires reader { is_file (path_of options.script) ≡ false }
     ensures failed { IfErr result (λ told. FailsWith (I.remaining reader.old) (Some (shell (given_of options.entry) traces)) (W.contents writer.old) (W.contents writer.new) told.fault) }
 {
@@ -440,12 +444,12 @@ fn answer_reader<R: AllocGlobal + Files + Print, I: Read, W: Write>(
 /// Answers the lines of a file, or of a reader where none is named.
 pub(crate) fn talk<R: AllocGlobal + Files + Print, I: Read, W: Write>(
     rt: &R,
-    options: Options<'_>,
+    options: CommandOptions<'_>,
     traces: bool,
     reader: &mut I,
     writer: &mut W,
     is_terminal: bool,
-) -> Result<(), Told<Fault>>
+) -> Result<(), FaultReport<Fault>>
     ensures failed { IfErr result (λ told. FailsWith (I.remaining reader.old) (Some (shell (given_of options.entry) traces)) (W.contents writer.old) (W.contents writer.new) told.fault) }
 {
     match file_of(options.script) {
@@ -457,10 +461,10 @@ pub(crate) fn talk<R: AllocGlobal + Files + Print, I: Read, W: Write>(
 /// Draws a script of steps.
 fn draw_script<R: AllocGlobal + Files, I: Read, W: Write>(
     rt: &R,
-    options: Options<'_>,
+    options: CommandOptions<'_>,
     reader: &mut I,
     writer: &mut W,
-) -> Result<(), Told<Fault>>
+) -> Result<(), FaultReport<Fault>>
     ensures failed { IfErr result (λ told. FailsWith (I.remaining reader.old) (Some (draw (given_of options.entry))) (W.contents writer.old) (W.contents writer.new) told.fault) }
 {
     let Begun { text, said, image } = match begin_steps(rt, options, reader) {
@@ -482,7 +486,7 @@ fn all_of_grammar(alloc: Global) -> Result<String, AllocError> {
 }
 
 /// Prints what a script may say.
-fn print_grammar<W: Write>(alloc: Global, writer: &mut W) -> Result<(), Told<Fault>>
+fn print_grammar<W: Write>(alloc: Global, writer: &mut W) -> Result<(), FaultReport<Fault>>
     ensures fault { IfErr result (λ told. IsRunFault told.fault IsNoGrammar) }
 {
     print_text(alloc, all_of_grammar(alloc), writer)

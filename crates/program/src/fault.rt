@@ -76,7 +76,7 @@ pub enum Fault {
 
 /// A fault, and the lines below its own on standard error.
 #[derive(Debug, Drop)]
-pub struct Told<F> {
+pub struct FaultReport<F> {
     /// The fault.
     pub fault: F,
     /// Where it is, as `FILE:LINE:COLUMN`, if that is told in place of the line's number.
@@ -85,12 +85,12 @@ pub struct Told<F> {
     pub below: String,
 }
 
-impl<F> Told<F> {
+impl<F> FaultReport<F> {
     /// A fault with these lines below its own.
-    pub(crate) fn of(fault: F, below: String) -> Told<F>
+    pub(crate) fn of(fault: F, below: String) -> FaultReport<F>
         ensures { result.fault ≡ fault }
     {
-        Told {
+        FaultReport {
             fault,
             place: None,
             below,
@@ -98,10 +98,10 @@ impl<F> Told<F> {
     }
 
     /// A fault with nothing below its line.
-    pub(crate) fn alone(alloc: Global, fault: F) -> Told<F>
+    pub(crate) fn alone(alloc: Global, fault: F) -> FaultReport<F>
         ensures { result.fault ≡ fault }
     {
-        Told::of(fault, String::new(alloc))
+        FaultReport::of(fault, String::new(alloc))
     }
 }
 
@@ -110,21 +110,21 @@ impl Fault {
     pub fn shown<R: AllocGlobal + Print + Eprint>(
         rt: &R,
         why: clap::Error,
-    ) -> Result<(), Told<Fault>>
+    ) -> Result<(), FaultReport<Fault>>
         ensures memory { IfErr result (λ told. kind_of why ≡ OutOfMemory → told.fault ≡ Fault.Run run.Memory) }
         ensures done { OnOk result (kind_of why ≢ OutOfMemory) }
     {
         let alloc = rt.alloc();
         if why.kind() == ErrorKind::OutOfMemory {
-            return Err(Told::alone(alloc, Fault::Run(RunFault::Memory)));
+            return Err(FaultReport::alone(alloc, Fault::Run(RunFault::Memory)));
         }
         if why.use_stderr() {
             let below = lines_or_none(alloc, sentence(alloc, &why));
-            return Err(Told::of(Fault::Arguments(why), below));
+            return Err(FaultReport::of(Fault::Arguments(why), below));
         }
         match why.print(rt) {
             Ok(()) => Ok(()),
-            Err(why) => Err(Told::alone(alloc, not_written(&why))),
+            Err(why) => Err(FaultReport::alone(alloc, not_written(&why))),
         }
     }
 
@@ -170,7 +170,7 @@ fn put_head<W: fmt::Write, N: fmt::Display>(
     }
 }
 
-impl fmt::Display for Told<Fault> {
+impl fmt::Display for FaultReport<Fault> {
     /// The fault's line and those below it, whole lines; nothing of what the output told, nor of an output that its reader closed.
     fn fmt<W: fmt::Write>(&self, f: &mut fmt::Formatter<W>) -> fmt::Result {
         match &self.fault {
@@ -200,14 +200,14 @@ impl fmt::Display for Told<Fault> {
     }
 }
 
-impl From<Told<ImageFault>> for Told<Fault> {
+impl From<FaultReport<ImageFault>> for FaultReport<Fault> {
     ghost use Rattle.program.specs.declared.fault.Fault.{Fault};
     ghost use Rattle.std.specs.Prelude.{◌≡◌};
 
     ghost from_gives = { λ why told. told.fault ≡ Fault.Image why.fault };
 
-    fn from(why: Told<ImageFault>) -> Self {
-        Told {
+    fn from(why: FaultReport<ImageFault>) -> Self {
+        FaultReport {
             fault: Fault::Image(why.fault),
             place: why.place,
             below: why.below,
@@ -215,14 +215,14 @@ impl From<Told<ImageFault>> for Told<Fault> {
     }
 }
 
-impl From<Told<RunFault>> for Told<Fault> {
+impl From<FaultReport<RunFault>> for FaultReport<Fault> {
     ghost use Rattle.program.specs.declared.fault.Fault.{Fault};
     ghost use Rattle.std.specs.Prelude.{◌≡◌};
 
     ghost from_gives = { λ why told. told.fault ≡ Fault.Run why.fault };
 
-    fn from(why: Told<RunFault>) -> Self {
-        Told {
+    fn from(why: FaultReport<RunFault>) -> Self {
+        FaultReport {
             fault: Fault::Run(why.fault),
             place: why.place,
             below: why.below,

@@ -7,10 +7,10 @@ ghost use Rattle.script_cli.specs.Inputs.{AreFirstOf};
 ghost use Rattle.script_cli.specs.declared.fault.RunFault.TheVariants as run;
 
 use crate::below::{below_options, lines_or_none, world_of};
-use crate::fault::{Fault, Told};
+use crate::fault::{Fault, FaultReport};
 use crate::places::STANDARD;
 use block_image::{Image, ImageError, MAX_BYTES};
-use command_line::Options;
+use command_line::CommandOptions;
 use script_cli::transcripts::MAX_TRANSCRIPT;
 use script_cli::{ImageFault, MAX_SCRIPT, ReadFault, RunFault, read_first, read_image};
 use std::alloc::{AllocGlobal, Global};
@@ -125,17 +125,20 @@ pub(crate) fn transcript_bytes<R: AllocGlobal + Files, I: Read>(
 }
 
 /// The image that a file is.
-fn file_image<R: AllocGlobal + Files>(rt: &R, path: &str) -> Result<Image, Told<ImageFault>> {
+fn file_image<R: AllocGlobal + Files>(
+    rt: &R,
+    path: &str,
+) -> Result<Image, FaultReport<ImageFault>> {
     let alloc = rt.alloc();
     if path == STANDARD {
-        return Err(Told::of(ImageFault::Unreadable, no_standard(alloc)));
+        return Err(FaultReport::of(ImageFault::Unreadable, no_standard(alloc)));
     }
     let mut file = match File::open(rt, path) {
         Ok(file) => Noted::over(file),
         Err(why) => {
             let below = unreadable(alloc, path, Some(why));
             let fault = ImageFault::Unreadable;
-            return Err(Told::of(fault, below));
+            return Err(FaultReport::of(fault, below));
         }
     };
     match read_image(alloc, &mut file) {
@@ -146,13 +149,13 @@ fn file_image<R: AllocGlobal + Files>(rt: &R, path: &str) -> Result<Image, Told<
                 ImageFault::BadLength => bad_length(alloc, path, file.count),
                 ImageFault::Memory => String::new(alloc),
             };
-            Err(Told::of(fault, below))
+            Err(FaultReport::of(fault, below))
         }
     }
 }
 
 /// An image of zeros.
-fn zero_image(alloc: Global, options: &Options<'_>) -> Result<Image, Told<ImageFault>>
+fn zero_image(alloc: Global, options: &CommandOptions<'_>) -> Result<Image, FaultReport<ImageFault>>
     ensures image { IfOk result (IsFirstImage (given_of options.now)) }
     ensures no_image { IfErr result (λ told. IsNoFirstImage (given_of options.now) told.fault) }
 {
@@ -162,17 +165,17 @@ fn zero_image(alloc: Global, options: &Options<'_>) -> Result<Image, Told<ImageF
             let blocks = world_of(options).zero_blocks();
             let below = lines_or_none(alloc, format!(in alloc; "{blocks}\n"));
             let fault = ImageFault::BadLength;
-            Err(Told::of(fault, below))
+            Err(FaultReport::of(fault, below))
         }
-        Err(ImageError::Memory) => Err(Told::alone(alloc, ImageFault::Memory)),
+        Err(ImageError::Memory) => Err(FaultReport::alone(alloc, ImageFault::Memory)),
     }
 }
 
 /// The image that a run begins with: the bytes of a file, or zeros.
 pub(crate) fn open_image<R: AllocGlobal + Files>(
     rt: &R,
-    options: &Options<'_>,
-) -> Result<Image, Told<ImageFault>>
+    options: &CommandOptions<'_>,
+) -> Result<Image, FaultReport<ImageFault>>
     ensures image { IfOk result (λ image. IsFirstImage (given_of options.now) image) }
     ensures no_image { IfErr result (λ told. IsNoFirstImage (given_of options.now) told.fault) }
 {
@@ -195,7 +198,7 @@ fn first_bytes<I: Read>(alloc: Global, reader: &mut I) -> Result<Vec<u8>, RunFau
 }
 
 /// The script that a file has.
-fn file_script<R: AllocGlobal + Files>(rt: &R, path: &str) -> Result<Vec<u8>, Told<RunFault>>
+fn file_script<R: AllocGlobal + Files>(rt: &R, path: &str) -> Result<Vec<u8>, FaultReport<RunFault>>
     ensures text { IfOk result (λ text. AreFirstOf 1048576 None text.items) }
     ensures fault { IfErr result (λ told. (told.fault ≡ run.Unreadable) ⊎ (told.fault ≡ run.Memory)) }
 {
@@ -205,7 +208,7 @@ fn file_script<R: AllocGlobal + Files>(rt: &R, path: &str) -> Result<Vec<u8>, To
         Err(why) => {
             let below = unreadable(alloc, path, Some(why));
             let fault = RunFault::Unreadable;
-            return Err(Told::of(fault, below));
+            return Err(FaultReport::of(fault, below));
         }
     };
     match first_bytes(alloc, &mut file) {
@@ -213,20 +216,20 @@ fn file_script<R: AllocGlobal + Files>(rt: &R, path: &str) -> Result<Vec<u8>, To
         Err(RunFault::Unreadable) => {
             let below = unreadable(alloc, path, file.why);
             let fault = RunFault::Unreadable;
-            Err(Told::of(fault, below))
+            Err(FaultReport::of(fault, below))
         }
-        Err(fault) => Err(Told::alone(alloc, fault)),
+        Err(fault) => Err(FaultReport::alone(alloc, fault)),
     }
 }
 
 /// The script of a reader that is standard input.
-fn reader_script<I: Read>(alloc: Global, reader: &mut I) -> Result<Vec<u8>, Told<RunFault>>
+fn reader_script<I: Read>(alloc: Global, reader: &mut I) -> Result<Vec<u8>, FaultReport<RunFault>>
     ensures text { IfOk result (λ text. AreFirstOf 1048576 (I.remaining reader.old) text.items) }
     ensures fault { IfErr result (λ told. (told.fault ≡ run.Unreadable) ⊎ (told.fault ≡ run.Memory)) }
 {
     match first_bytes(alloc, reader) {
         Ok(text) => Ok(text),
-        Err(fault) => Err(Told::alone(alloc, fault)),
+        Err(fault) => Err(FaultReport::alone(alloc, fault)),
     }
 }
 
@@ -235,7 +238,7 @@ pub(crate) fn script_text<R: AllocGlobal + Files, I: Read>(
     rt: &R,
     path: Option<&str>,
     reader: &mut I,
-) -> Result<Vec<u8>, Told<RunFault>>
+) -> Result<Vec<u8>, FaultReport<RunFault>>
     ensures text { IfOk result (λ text. AreFirstOf 1048576 (script_told (path_of path.entry) (I.remaining reader.old)) text.items) }
     ensures fault { IfErr result (λ told. (told.fault ≡ run.Unreadable) ⊎ (told.fault ≡ run.Memory)) }
 {
@@ -254,22 +257,22 @@ pub(crate) fn script_text<R: AllocGlobal + Files, I: Read>(
 /// What a script of steps is played over: what is given, but for the options that its first line says.
 fn steps_said<'a>(
     alloc: Global,
-    options: Options<'a>,
+    options: CommandOptions<'a>,
     text: &[u8],
-) -> Result<Options<'a>, Told<Fault>>
+) -> Result<CommandOptions<'a>, FaultReport<Fault>>
     ensures said { IfOk result (λ said. spec_steps_said (given_of options.entry) text.now ≡ Some (given_of said)) }
     ensures fault { IfErr result (λ told. told.fault ≡ Fault.BadOptions) }
     ensures none { OnErr result (spec_steps_said (given_of options.entry) text.now ≡ None) }
 {
     match world_of(&options).said_in(text) {
-        Ok(said) => Ok(Options {
+        Ok(said) => Ok(CommandOptions {
             config: said.config,
             blocks: said.blocks,
             ..options
         }),
         Err(bad) => {
             let below = below_options(alloc, text, bad);
-            Err(Told::of(Fault::BadOptions, below))
+            Err(FaultReport::of(Fault::BadOptions, below))
         }
     }
 }
@@ -277,10 +280,10 @@ fn steps_said<'a>(
 /// What a script of jobs is run over, and by how many submitters: what is given, but for what its first line says.
 fn jobs_said<'a>(
     alloc: Global,
-    options: Options<'a>,
+    options: CommandOptions<'a>,
     submitters: u16,
     text: &[u8],
-) -> Result<(Options<'a>, u16), Told<Fault>>
+) -> Result<(CommandOptions<'a>, u16), FaultReport<Fault>>
     requires some { 1 ≤ submitters }
     requires few { submitters ≤ 16 }
     ensures said { IfOk result (λ said. spec_jobs_said (given_of options.entry) submitters text.now ≡ Some (given_of said.0, said.1)) }
@@ -291,7 +294,7 @@ fn jobs_said<'a>(
 {
     match world_of(&options).jobs_said_in(submitters, text) {
         Ok((said, submitters)) => {
-            let options = Options {
+            let options = CommandOptions {
                 config: said.config,
                 blocks: said.blocks,
                 ..options
@@ -300,7 +303,7 @@ fn jobs_said<'a>(
         }
         Err(bad) => {
             let below = below_options(alloc, text, bad);
-            Err(Told::of(Fault::BadOptions, below))
+            Err(FaultReport::of(Fault::BadOptions, below))
         }
     }
 }
@@ -311,7 +314,7 @@ pub(crate) struct Begun<'a> {
     /// Its bytes, or one more than a script may have.
     pub(crate) text: Vec<u8>,
     /// What is given, but for the options that it says itself.
-    pub(crate) said: Options<'a>,
+    pub(crate) said: CommandOptions<'a>,
     /// The image that the run begins with.
     pub(crate) image: Image,
 }
@@ -319,9 +322,9 @@ pub(crate) struct Begun<'a> {
 /// Reads a script of steps, what it says of options, and its image.
 pub(crate) fn begin_steps<'a, R: AllocGlobal + Files, I: Read>(
     rt: &R,
-    options: Options<'a>,
+    options: CommandOptions<'a>,
     reader: &mut I,
-) -> Result<Begun<'a>, Told<Fault>>
+) -> Result<Begun<'a>, FaultReport<Fault>>
     ensures read { IfOk result (λ begun. AreFirstOf 1048576 (script_told (path_of options.entry.script) (I.remaining reader.old)) begun.text.items) }
     ensures said { IfOk result (λ begun. spec_steps_said (given_of options.entry) begun.text.items ≡ Some (given_of begun.said)) }
     ensures image { IfOk result (λ begun. IsFirstImage (given_of begun.said) begun.image) }
@@ -336,10 +339,10 @@ pub(crate) fn begin_steps<'a, R: AllocGlobal + Files, I: Read>(
 /// Reads a script of jobs, what it says of options and submitters, and its image.
 pub(crate) fn begin_jobs<'a, R: AllocGlobal + Files, I: Read>(
     rt: &R,
-    options: Options<'a>,
+    options: CommandOptions<'a>,
     submitters: u16,
     reader: &mut I,
-) -> Result<(Begun<'a>, u16), Told<Fault>>
+) -> Result<(Begun<'a>, u16), FaultReport<Fault>>
     requires some { 1 ≤ submitters }
     requires few { submitters ≤ 16 }
     ensures read { IfOk result (λ begun. AreFirstOf 1048576 (script_told (path_of options.entry.script) (I.remaining reader.old)) begun.0.text.items) }

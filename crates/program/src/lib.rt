@@ -19,5 +19,5 @@ mod serving;
 mod testing;
 
 pub use commands::{Terminals, perform, run};
-pub use fault::{BytesFault, Fault, Told};
+pub use fault::{BytesFault, Fault, FaultReport};
 pub use testing::Tally;

@@ -7,11 +7,11 @@ ghost use Rattle.program.specs.Loading.{Adds};
 ghost use Rattle.program.specs.Performing.{FailsWith, fault_of_load, Performs};
 
 use crate::below::{below_run, lines_or_none};
-use crate::fault::{Fault, Told};
+use crate::fault::{Fault, FaultReport};
 use crate::inputs::open_image;
 use crate::serving::server_of;
-use command_line::{Options, Serving, VERSION};
-use load::{Bad, Figures, LoadFault, Ran, Report, run_load};
+use command_line::{CommandOptions, Serving, VERSION};
+use load::{Bad, Figures, LoadFault, LoadResult, ProgressReport, run_load};
 use script_cli::workload::{Load, OutputFormat};
 use script_cli::{RunFault, flush, not_written, put, write_out};
 use std::alloc::{AllocGlobal, Global};
@@ -22,7 +22,7 @@ use std::thread::Threads;
 use texts::faults::Grammar;
 
 /// Says on standard error what was measured.
-fn tell_times<R: AllocGlobal + Eprint>(rt: &R, ran: &Ran) {
+fn tell_times<R: AllocGlobal + Eprint>(rt: &R, ran: &LoadResult) {
     let text = lines_or_none(rt.alloc(), ran.summary(rt.alloc()));
     // Where standard error is closed, nothing is told.
     let _ = eprint!(rt; "{text}");
@@ -37,7 +37,7 @@ struct StatsFile<'a, R: AllocGlobal + Files + Print> {
     lost: Option<String>,
 }
 
-impl<R: AllocGlobal + Files + Print> Report for StatsFile<'_, R> {
+impl<R: AllocGlobal + Files + Print> ProgressReport for StatsFile<'_, R> {
     fn take(&mut self, so_far: &Figures<'_>) {
         let Some(path) = self.path else {
             return;
@@ -66,12 +66,12 @@ fn not_saved<R: AllocGlobal + Files + Print>(
 }
 
 /// The fault of a file that is named and was not written once, with what is told of it.
-fn stats_end(path: Option<&str>, lost: Option<String>) -> Result<(), Told<Fault>>
+fn stats_end(path: Option<&str>, lost: Option<String>) -> Result<(), FaultReport<Fault>>
     ensures fault { IfErr result (λ told. told.fault ≡ Fault.NoStats) }
     ensures asked { IfErr result (λ told. IsSome path.entry) }
 {
     match (path, lost) {
-        (Some(_), Some(below)) => Err(Told::of(Fault::NoStats, below)),
+        (Some(_), Some(below)) => Err(FaultReport::of(Fault::NoStats, below)),
         _ => Ok(()),
     }
 }
@@ -80,7 +80,7 @@ fn stats_end(path: Option<&str>, lost: Option<String>) -> Result<(), Told<Fault>
 fn write_json<W: Write>(
     alloc: Global,
     format: OutputFormat,
-    ran: &Ran,
+    ran: &LoadResult,
     writer: &mut W,
 ) -> Result<(), RunFault>
     ensures { Adds format (W.contents writer.old) (W.contents writer.new) }
@@ -104,15 +104,15 @@ fn first_bad(alloc: Global, bad: Option<Bad>) -> String {
 }
 
 /// What is told of a load that did not run to its end.
-fn not_loaded(alloc: Global, options: &Options<'_>, why: LoadFault) -> Told<Fault>
+fn not_loaded(alloc: Global, options: &CommandOptions<'_>, why: LoadFault) -> FaultReport<Fault>
     ensures { result.fault ≡ fault_of_load why }
 {
     match why {
         LoadFault::Run(fault) => {
             let below = below_run(alloc, Grammar::Steps, &[], options, fault);
-            Told::of(Fault::Run(fault), below)
+            FaultReport::of(Fault::Run(fault), below)
         }
-        why => Told::alone(alloc, Fault::Load(why)),
+        why => FaultReport::alone(alloc, Fault::Load(why)),
     }
 }
 
@@ -122,12 +122,12 @@ pub(crate) fn load_image<
     W: Write,
 >(
     rt: &R,
-    options: Options<'_>,
+    options: CommandOptions<'_>,
     what: Load<'_>,
     serving: Serving,
     writer: &mut W,
     is_terminal: bool,
-) -> Result<(), Told<Fault>>
+) -> Result<(), FaultReport<Fault>>
     requires fits { FitsLoad what }
     ensures ran { OnOk result (Performs None (Some (load (given_of options.entry) (loaded_of what.entry) serving)) (W.contents writer.old) (W.contents writer.new)) }
     ensures failed { IfErr result (λ told. FailsWith None (Some (load (given_of options.entry) (loaded_of what.entry) serving)) (W.contents writer.old) (W.contents writer.new) told.fault) }
@@ -165,5 +165,5 @@ pub(crate) fn load_image<
     if ran.tally.is_good() {
         return saved;
     }
-    Err(Told::of(Fault::Loaded(ran.tally), first_bad(alloc, ran.bad)))
+    Err(FaultReport::of(Fault::Loaded(ran.tally), first_bad(alloc, ran.bad)))
 }

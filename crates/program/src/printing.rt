@@ -3,7 +3,7 @@
 ghost use Rattle.std.specs.Prelude.{IfErr};
 ghost use Rattle.program.specs.Performing.{IsNoGrammar, IsRunFault};
 
-use crate::fault::{Fault, Told};
+use crate::fault::{Fault, FaultReport};
 use script_cli::{RunFault, flush, put};
 use std::alloc::{AllocError, Global};
 use std::io::Write;
@@ -13,7 +13,7 @@ pub(crate) fn print_text<W: Write>(
     alloc: Global,
     text: Result<String, AllocError>,
     writer: &mut W,
-) -> Result<(), Told<Fault>>
+) -> Result<(), FaultReport<Fault>>
     ensures fault { IfErr result (λ told. IsRunFault told.fault IsNoGrammar) }
 {
     let end = match text {
@@ -25,6 +25,6 @@ pub(crate) fn print_text<W: Write>(
     };
     match end {
         Ok(()) => Ok(()),
-        Err(fault) => Err(Told::alone(alloc, Fault::Run(fault))),
+        Err(fault) => Err(FaultReport::alone(alloc, Fault::Run(fault))),
     }
 }

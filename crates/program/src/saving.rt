@@ -3,7 +3,7 @@
 ghost use Rattle.std.specs.Prelude.{◌≡◌, IfErr, IsSome};
 
 use crate::below::lines_or_none;
-use crate::fault::{Fault, Told};
+use crate::fault::{Fault, FaultReport};
 use block_image::Image;
 use script_cli::{not_written, write_out};
 use std::alloc::AllocGlobal;
@@ -14,7 +14,7 @@ pub(crate) fn save_image<R: AllocGlobal + Files + Print>(
     rt: &R,
     path: Option<&str>,
     image: &Image,
-) -> Result<(), Told<Fault>>
+) -> Result<(), FaultReport<Fault>>
     ensures fault { IfErr result (λ told. told.fault ≡ Fault.NotSaved) }
     ensures asked { IfErr result (λ told. IsSome path.entry) }
 {
@@ -27,7 +27,7 @@ pub(crate) fn save_image<R: AllocGlobal + Files + Print>(
             let alloc = rt.alloc();
             let below = lines_or_none(alloc, not_written(alloc, path, &why));
             let fault = Fault::NotSaved;
-            Err(Told::of(fault, below))
+            Err(FaultReport::of(fault, below))
         }
     }
 }

@@ -2,7 +2,7 @@
 use Rattle.std.specs.Prelude.{◌≡◌, ℕ, ◌+◌, ◌==◌, Option, Some, None, Result, Ok, Err, List, [], ◌∷◌, ◌++◌, codes, map, min, string_bytes, if◌then◌else◌}
 use Rattle.script_cli.specs.{Grammar.line_of, Lines.{first_line, is_blank, is_solid, lines, onward}, Options.{begins_with, said_on}}
 use Rattle.script_cli.specs.declared.{fault.LineFault.LineFault, script.Line.Line}
-use Rattle.script_cli.specs.declared.transcripts.{fault.TranscriptFault.TranscriptFault, options.{SaidOptions.SaidOptions, ScriptKind.TheVariants.Steps}, read.{Answer.Answer, Read.Read, Told.Told}}
+use Rattle.script_cli.specs.declared.transcripts.{fault.TranscriptFault.TranscriptFault, options.{SaidOptions.SaidOptions, ScriptKind.TheVariants.Steps}, read.{PrintedLine.PrintedLine, Read.Read, Told.Told}}
 use Rattle.script_cli.specs.declared.script.Line.TheVariants as line
 use Rattle.script_cli.specs.declared.transcripts.fault.TranscriptFault.TheVariants as fault
 use Rattle.script_cli.specs.declared.transcripts.read.Read.TheVariants as read
@@ -23,7 +23,7 @@ pub record TranscriptText : Type 0 where
   pub said : SaidOptions
   pub told : List ToldText
 
-abbrev pub answer_text : Answer → AnswerText
+abbrev pub answer_text : PrintedLine → AnswerText
 answer_text answer = record { number = answer.number; text = string_bytes answer.text }
 
 abbrev pub told_text : Told → ToldText

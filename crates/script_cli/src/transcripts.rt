@@ -42,5 +42,5 @@ pub use heap::{reply_in, step_in};
 pub use options::{BadOption, OPTIONS, Options, SaidOptions, ScriptKind, WhyBad};
 pub use playing::{StepMaker, play, printed};
 pub use ranges::{Ranged, out_of_range};
-pub use read::{Answer, Told, Transcript, answer_of, read_transcript};
+pub use read::{PrintedLine, Told, Transcript, answer_of, read_transcript};
 pub use testing::{MAX_TRANSCRIPT, Outcome, compared, test_transcript, text_of};

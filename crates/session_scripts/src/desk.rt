@@ -16,7 +16,7 @@ use crate::desk::answers::{kept, refused};
 use crate::desk::steps::{build, fill, gather};
 use crate::desk::values::{draft_of, finished_of, ticket_of};
 pub use access::Access;
-pub use answers::Answer;
+pub use answers::DeskAnswer;
 use driver_book::{CloseFault, FullLogBrand, NoSeat, ReportIn, Seat};
 use io_commands::Request;
 use page_ledger::{Counts, Owner};
@@ -77,7 +77,7 @@ impl<'r, L: FullLogBrand, R: Wait, A: Allocator + Copy> Desk<'r, L, R, A> {
     }
 
     /// Submits a draft for the last seat. Without a seat there is nothing to submit for.
-    fn submit(&mut self, q: u16, cid: u16) -> Answer<A> {
+    fn submit(&mut self, q: u16, cid: u16) -> DeskAnswer<A> {
         let Some(seat) = self.seats.last_mut() else {
             return Ok(Reply::NoValue);
         };
@@ -99,7 +99,7 @@ impl<'r, L: FullLogBrand, R: Wait, A: Allocator + Copy> Desk<'r, L, R, A> {
     }
 
     /// Releases a finished command of the last seat, where it has a receipt of it.
-    fn release(&mut self, q: u16, cid: u16) -> Answer<A> {
+    fn release(&mut self, q: u16, cid: u16) -> DeskAnswer<A> {
         let Some(seat) = self.seats.last_mut() else {
             return Ok(Reply::NoValue);
         };
@@ -124,7 +124,7 @@ impl<'r, L: FullLogBrand, R: Wait, A: Allocator + Copy> Desk<'r, L, R, A> {
     }
 
     /// Collects a command by its ticket.
-    fn collect(&mut self, q: u16, cid: u16) -> Answer<A> {
+    fn collect(&mut self, q: u16, cid: u16) -> DeskAnswer<A> {
         let Some(ticket) = ticket_of(&mut self.values, q, cid) else {
             return Ok(Reply::NoValue);
         };
@@ -147,7 +147,7 @@ impl<'r, L: FullLogBrand, R: Wait, A: Allocator + Copy> Desk<'r, L, R, A> {
     }
 
     /// Reserves a command.
-    fn reserve(&mut self, q: u16, request: Request<A>) -> Answer<A> {
+    fn reserve(&mut self, q: u16, request: Request<A>) -> DeskAnswer<A> {
         let answer = match &mut self.access {
             Access::Book(book) => book.reserve(q, request),
             Access::Lock(shared) => shared.reserve(self.rt, q, request),
@@ -162,7 +162,7 @@ impl<'r, L: FullLogBrand, R: Wait, A: Allocator + Copy> Desk<'r, L, R, A> {
     }
 
     /// Cancels a draft.
-    fn cancel(&mut self, q: u16, cid: u16) -> Answer<A> {
+    fn cancel(&mut self, q: u16, cid: u16) -> DeskAnswer<A> {
         let Some(draft) = draft_of(&mut self.values, q, cid) else {
             return Ok(Reply::NoValue);
         };
@@ -185,7 +185,7 @@ impl<'r, L: FullLogBrand, R: Wait, A: Allocator + Copy> Desk<'r, L, R, A> {
     /// # Errors
     ///
     /// Where memory is refused for the list of the commands.
-    pub fn make(&mut self, step: StepIn<A>) -> Answer<A> {
+    pub fn make(&mut self, step: StepIn<A>) -> DeskAnswer<A> {
         match step {
             Step::Reserve { q, request } => self.reserve(q, request),
             Step::Submit { q, cid } => self.submit(q, cid),

@@ -13,7 +13,7 @@ mod standing;
 mod threads;
 mod visit;
 
-use fault::{Fault, Way, Wrong};
+use fault::{PlayFault, Way, Wrong};
 use player::{play_run, refuse_each};
 use refused::{End, Run};
 use report::print_line;
@@ -39,7 +39,7 @@ pub fn play_script<R: AllocGlobal + Eprint + Files + Print + Wait>(
 ) -> io::Result<bool> {
     let played = match read_file(rt, file) {
         Ok(transcript) => play_each_way(rt, &transcript),
-        Err(wrong) => Err(Fault {
+        Err(wrong) => Err(PlayFault {
             way: Way::Unplayed,
             growth: 0,
             wrong,
@@ -74,7 +74,7 @@ fn read_file<R: AllocGlobal + Files>(rt: &R, file: &str) -> Result<Transcript, W
 fn play_each_way<R: AllocGlobal + Eprint + Wait>(
     rt: &R,
     transcript: &Transcript,
-) -> Result<(Scores, Standing), Fault> {
+) -> Result<(Scores, Standing), PlayFault> {
     let run = Run {
         way: Way::Bench,
         growth: 0,
@@ -86,7 +86,7 @@ fn play_each_way<R: AllocGlobal + Eprint + Wait>(
     let through_book = play_run(rt, Run { way, ..run })?;
     let (book, bench) = (&through_book.standing, &on_bench.standing);
     if book.owners.as_slice() != bench.owners.as_slice() || book.counts != bench.counts {
-        return Err(Fault {
+        return Err(PlayFault {
             way,
             growth: 0,
             wrong: Wrong::Standing,
@@ -102,7 +102,7 @@ fn play_again<'t, R: AllocGlobal + Eprint + Wait>(
     run: Run<'t>,
     on_bench: &'t End,
     through_book: &'t End,
-) -> Result<Scores, Fault> {
+) -> Result<Scores, PlayFault> {
     let on_bench = Run {
         wanted: Some(on_bench),
         ..run
@@ -152,13 +152,13 @@ pub fn refuse_growths<R: AllocGlobal + Eprint + Print + Sync + Threads + Wait>(
 /// How many growths a visit has, and a run of threads. Each was refused.
 fn each_growth<R: AllocGlobal + Eprint + Sync + Threads + Wait>(
     rt: &R,
-) -> Result<(u64, u64), Fault> {
+) -> Result<(u64, u64), PlayFault> {
     let (way, growth) = (Way::Visit, 0);
     let transcript = match read_transcript(rt.alloc(), visit::BUILT) {
         Ok(transcript) => transcript,
         Err(fault) => {
             let wrong = Wrong::Transcript(fault);
-            return Err(Fault { way, growth, wrong });
+            return Err(PlayFault { way, growth, wrong });
         }
     };
     let run = Run {

@@ -1,14 +1,13 @@
 -- What looks at a world tell, and that each touch is counted and told.
 use Rattle.controller_core.specs.Looks as controller
 use Rattle.machine_model.specs.Events as events
-use Rattle.controller_core.specs.declared.refusal.Refusal as refusing
 use Rattle.std.proofs.Common.{◌≡◌, ℕ, suc, ◌+◌, ◌<◌, ◌≤◌, Bool, true, false, ◌&&◌, Option, Some, None, List, [], ◌∷◌, length, is_none, IfSome, IfNone, IsTrue, refl, ap, sym, ◌∙◌, subst, arith, ◌⊎◌, inl, inr, get_or, below_more, not, is_some, if◌then◌else◌, zero, ◌-◌, ◌*◌, ◌++◌, Result, Ok, Err}
 use Rattle.std.{proofs.lemmas.{Bool.{OnTrue_from, eq-eqb}, Option.{slice_get_cases, none-some, slice_get_past, slice_get_read}}, specs.Bool.OnTrue}
 use Rattle.std.specs.{Option.{option_map, option_map_or}, Prelude.{slice_get, nat_eq, OnOk, OnErr}}
 use Rattle.controller_core.specs.{Contents.Contents, Fetching.fetch_refusal}
 use Rattle.controller_core.specs.Looks.{refusal_by, post_touches, post_touches_at, entry_touches, fetch_touches, heads_touch, looked, queue_numbers}
 use Rattle.controller_core.specs.declared.{look.ControllerStep.{ControllerStep, TheVariants.{Fetch, Walk, Complete}}, queue.ControllerQueue.ControllerQueue}
-use Rattle.controller_core.specs.declared.refusal.Refusal.{Refusal}
+use Rattle.controller_core.specs.declared.refusal.ControllerRefusal.{ControllerRefusal}
 use Rattle.host_core.specs.{Alone.alone, Looks.completion_waits}
 use Rattle.machine_model.specs.{Agreeing.{has_completions_at, is_absent_at}, Events.Reply, Refusals.{refusal_of, is_reaped, fetch_slot}}
 use Rattle.machine_model.specs.{State.{State, HostQueue, ServedQueue, outstanding_on}, Touch.touched_by, declared.words.HostState.HostState}
@@ -72,7 +71,7 @@ possible s old (Some step) is l none =
 refused_alike : (s : Sides) (step : ControllerStep) → IsWorld s → s.trusted ≡ true → is_none (refusal_by s.controller (byte_at s.pages) step) ≡ false → is_none (refusal_of (state_of s) (event_of step)) ≡ false
 refused_alike s step l trust some = ap is_none (refusal_alike s step l trust) ∙ (same (refusal_by s.controller (byte_at s.pages) step) ∙ some)
   where
-    same : (o : Option Refusal) → is_none (option_map why_of o) ≡ is_none o
+    same : (o : Option ControllerRefusal) → is_none (option_map why_of o) ≡ is_none o
     same None = refl
     same (Some why) = refl
 
@@ -280,15 +279,15 @@ told_past s w q i xs looked world view same place past is =
 
 -- what the replies of the controller's steps tell
 
-pub fetch_told : (answer : Result ℕ refusing.Refusal) (touched : List ℕ) → touched_by (fetch_reply answer touched) ≡ touched
+pub fetch_told : (answer : Result ℕ ControllerRefusal) (touched : List ℕ) → touched_by (fetch_reply answer touched) ≡ touched
 fetch_told (Ok cid) touched = refl
 fetch_told (Err why) touched = refl
 
-pub walk_told : (answer : Result WalkState refusing.Refusal) (touched : List ℕ) → touched_by (walk_reply answer touched) ≡ touched
+pub walk_told : (answer : Result WalkState ControllerRefusal) (touched : List ℕ) → touched_by (walk_reply answer touched) ≡ touched
 walk_told (Ok state) touched = refl
 walk_told (Err why) touched = refl
 
-pub complete_told : (answer : Result (Unit {0}) refusing.Refusal) (touched : List ℕ) → touched_by (complete_reply answer touched) ≡ touched
+pub complete_told : (answer : Result (Unit {0}) ControllerRefusal) (touched : List ℕ) → touched_by (complete_reply answer touched) ≡ touched
 complete_told (Ok done) touched = refl
 complete_told (Err why) touched = refl
 

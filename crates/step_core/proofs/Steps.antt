@@ -1,5 +1,5 @@
 -- Each call of a world is a step of the machine, after which both sides are tied.
-use Rattle.controller_core.specs.declared.refusal.Refusal as refusing
+use Rattle.controller_core.specs.declared.refusal.ControllerRefusal.{ControllerRefusal}
 use Rattle.host_core.specs.Ringing as ringing
 use Rattle.machine_model.specs.Events as events
 use Rattle.machine_model.specs.Step as machine
@@ -100,7 +100,7 @@ reap_goes s q what head host pages c l step at over is =
 leaves : (old cleared new : store.Contents) → cleared ≡ record old { touched = []; unlisted = counted old.unlisted (length old.touched) } → AreWhole new.pages → length new.pages ≡ length cleared.pages → LeavesPages old.pages new.pages
 leaves old cleared new is whole count = record { whole = whole; count = count ∙ ap (λ (x : store.Contents). length x.pages) is }
 
-pub fetch_goes : (host : HostView) (controller c : Contents) (old cleared new : store.Contents) (trusted : Bool) (q : ℕ) (result : Result ℕ refusing.Refusal)
+pub fetch_goes : (host : HostView) (controller c : Contents) (old cleared new : store.Contents) (trusted : Bool) (q : ℕ) (result : Result ℕ ControllerRefusal)
     → IsWorld (sides_of host controller old.pages trusted) → cleared ≡ record old { touched = []; unlisted = counted old.unlisted (length old.touched) } → IsController c → AreWhole new.pages → length new.pages ≡ length cleared.pages
     → Fetches controller (length cleared.pages) (byte_at cleared.pages) cleared.touched q result c (byte_at new.pages) new.touched
     → (touched : List ℕ) (reply : Reply) → touched ≡ new.touched → reply ≡ fetch_reply result touched
@@ -116,13 +116,13 @@ fetch_goes host controller c old cleared new trusted q result l is ok whole coun
 abbrev pub Stays : Contents → Memory → List ℕ → Contents → Memory → List ℕ → Type 0
 Stays c m reached c' m' reached' = (c' ≡ c) × (m' ≡ m) × (reached' ≡ reached)
 
-walks_by : (c : Contents) (m : Memory) (reached : List ℕ) (q cid : ℕ) (result : Result WalkState refusing.Refusal) (c' : Contents) (m' : Memory) (reached' : List ℕ)
+walks_by : (c : Contents) (m : Memory) (reached : List ℕ) (q cid : ℕ) (result : Result WalkState ControllerRefusal) (c' : Contents) (m' : Memory) (reached' : List ℕ)
     → result_err result ≡ walk_refusal c q cid → OnErr result (Stays c m reached c' m' reached') → IfOk result (λ state. WalksTo c q cid m reached state c' m' reached')
     → Walks c m reached q cid result c' m' reached'
 walks_by c m reached q cid (Ok state) c' m' reached' why stays walks = (sym why, walks)
 walks_by c m reached q cid (Err cause) c' m' reached' why stays walks = (sym why, stays.0, stays.1, stays.2)
 
-pub walk_goes : (host : HostView) (controller c : Contents) (old cleared new : store.Contents) (trusted : Bool) (q cid : ℕ) (result : Result WalkState refusing.Refusal)
+pub walk_goes : (host : HostView) (controller c : Contents) (old cleared new : store.Contents) (trusted : Bool) (q cid : ℕ) (result : Result WalkState ControllerRefusal)
     → IsWorld (sides_of host controller old.pages trusted) → cleared ≡ record old { touched = []; unlisted = counted old.unlisted (length old.touched) } → IsController c → AreWhole new.pages → length new.pages ≡ length cleared.pages
     → result_err result ≡ walk_refusal controller q cid
     → OnErr result (Stays controller (byte_at cleared.pages) cleared.touched c (byte_at new.pages) new.touched)
@@ -137,13 +137,13 @@ walk_goes host controller c old cleared new trusted q cid result l is ok whole c
     (subst (λ (x : store.Contents). Walks controller (byte_at x.pages) x.touched q cid result c (byte_at new.pages) new.touched) is
     (walks_by controller (byte_at cleared.pages) cleared.touched q cid result c (byte_at new.pages) new.touched why stays walks))))
 
-completes_by : (c : Contents) (m : Memory) (reached : List ℕ) (q cid : ℕ) (result : Result (Unit {0}) refusing.Refusal) (c' : Contents) (m' : Memory) (reached' : List ℕ)
+completes_by : (c : Contents) (m : Memory) (reached : List ℕ) (q cid : ℕ) (result : Result (Unit {0}) ControllerRefusal) (c' : Contents) (m' : Memory) (reached' : List ℕ)
     → result_err result ≡ complete_refusal c m q cid → OnErr result (Stays c m reached c' m' reached') → IfOk result (λ done. CompletesTo c q cid m reached c' m' reached')
     → Completes c m reached q cid result c' m' reached'
 completes_by c m reached q cid (Ok done) c' m' reached' why stays completes = (sym why, completes)
 completes_by c m reached q cid (Err cause) c' m' reached' why stays completes = (sym why, stays.0, stays.1, stays.2)
 
-pub complete_goes : (host : HostView) (controller c : Contents) (old cleared new : store.Contents) (trusted : Bool) (q cid : ℕ) (result : Result (Unit {0}) refusing.Refusal)
+pub complete_goes : (host : HostView) (controller c : Contents) (old cleared new : store.Contents) (trusted : Bool) (q cid : ℕ) (result : Result (Unit {0}) ControllerRefusal)
     → IsWorld (sides_of host controller old.pages trusted) → cleared ≡ record old { touched = []; unlisted = counted old.unlisted (length old.touched) } → IsController c → AreWhole new.pages → length new.pages ≡ length cleared.pages
     → result_err result ≡ complete_refusal controller (byte_at cleared.pages) q cid
     → OnErr result (Stays controller (byte_at cleared.pages) cleared.touched c (byte_at new.pages) new.touched)

@@ -10,29 +10,30 @@ ghost use Rattle.two_sides.specs.Serving.{why_of};
 
 use crate::refused::{Completed, Fetched, StepRefused, Touched, Walked, touched_by};
 use crate::world::World;
+use controller_core::ControllerRefusal;
 use controller_walk::WalkState;
 use machine_model::words::Refusal;
 use page_memory::TouchRecord;
 use std::alloc::Allocator;
 
 /// The machine's word for a cause that the controller reports.
-fn word_of(why: controller_core::Refusal) -> Refusal
+fn word_of(why: ControllerRefusal) -> Refusal
     ensures { result ≡ why_of why }
 {
     match why {
-        controller_core::Refusal::Idle => Refusal::Idle,
-        controller_core::Refusal::SlotOut => Refusal::SlotOut,
-        controller_core::Refusal::Full => Refusal::Full,
-        controller_core::Refusal::NoJob => Refusal::NoJob,
-        controller_core::Refusal::Nothing => Refusal::Nothing,
-        controller_core::Refusal::Walking => Refusal::Walking,
-        controller_core::Refusal::Waits => Refusal::Waits,
-        controller_core::Refusal::Memory => Refusal::Memory,
+        ControllerRefusal::Idle => Refusal::Idle,
+        ControllerRefusal::SlotOut => Refusal::SlotOut,
+        ControllerRefusal::Full => Refusal::Full,
+        ControllerRefusal::NoJob => Refusal::NoJob,
+        ControllerRefusal::Nothing => Refusal::Nothing,
+        ControllerRefusal::Walking => Refusal::Walking,
+        ControllerRefusal::Waits => Refusal::Waits,
+        ControllerRefusal::Memory => Refusal::Memory,
     }
 }
 
 /// A refusal of the controller, with the pages that it touched before.
-fn refused(why: controller_core::Refusal, touched: Touched) -> StepRefused
+fn refused(why: ControllerRefusal, touched: Touched) -> StepRefused
     ensures { result ≡ record { why = why_of why; touched = touched } }
 {
     StepRefused {
@@ -42,10 +43,7 @@ fn refused(why: controller_core::Refusal, touched: Touched) -> StepRefused
 }
 
 /// What a fetch answers, with the pages that it touched.
-fn fetched(
-    answer: Result<u16, controller_core::Refusal>,
-    touched: Touched,
-) -> Result<Fetched, StepRefused>
+fn fetched(answer: Result<u16, ControllerRefusal>, touched: Touched) -> Result<Fetched, StepRefused>
     ensures { fetch_reply result ≡ serving.fetch_reply answer touched }
 {
     match answer {
@@ -56,7 +54,7 @@ fn fetched(
 
 /// What a walk's step answers, with the pages that it touched.
 fn walked(
-    answer: Result<WalkState, controller_core::Refusal>,
+    answer: Result<WalkState, ControllerRefusal>,
     touched: Touched,
 ) -> Result<Walked, StepRefused>
     ensures { walk_reply result ≡ serving.walk_reply answer touched }
@@ -69,7 +67,7 @@ fn walked(
 
 /// What a completion answers, with the page that it touched.
 fn completed(
-    answer: Result<(), controller_core::Refusal>,
+    answer: Result<(), ControllerRefusal>,
     touched: Touched,
 ) -> Result<Completed, StepRefused>
     ensures { complete_reply result ≡ serving.complete_reply answer touched }

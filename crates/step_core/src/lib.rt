@@ -40,8 +40,8 @@ pub use ended::{Ended, Leftover};
 pub use entry_codec::{Hints, Status};
 pub use host_core::{Config, QueueMemory, Refused, Right, Run, Runs};
 pub use io_commands::{
-    AdminCommand, BlockRange, BlockSize, Draft, FillFault, Finished, Flags, Kind, PageUse, Piece,
-    Pieces, Request, RequestFault, RequestOf, Ticket,
+    AdminCommand, BlockRange, BlockSize, Bytes, Draft, FillFault, Finished, Flags, Kind, PageUse,
+    Piece, Pieces, Request, RequestFault, RequestOf, Ticket,
 };
 pub use machine_model::words::{HostState, OpenRefusal, Phase, Reaped, Refusal, RejectedFor};
 pub use open::OpenRefused;
@@ -50,5 +50,5 @@ pub use page_memory::{Half, Page, PageNo, Unreadable};
 pub use queue_pair::HostPositions;
 pub use refused::{Completed, Fetched, StepRefused, Touched, Walked};
 pub use rings::{FetchPositions, PostPositions, Rings};
-pub use step::{Bytes, Reply, ReplyIn, Step, StepIn};
+pub use step::{Reply, ReplyIn, Step, StepIn};
 pub use world::World;

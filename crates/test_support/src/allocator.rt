@@ -1,6 +1,6 @@
 //! The allocator itself.
 
-use crate::refusal::Refusal;
+use crate::refusal::RefusedCalls;
 use crate::tally::Tally;
 use std::alloc::{AllocError, Allocator};
 use std::sync::atomic::{AtomicU64, Ordering};
@@ -31,7 +31,7 @@ struct Account {
 impl<A: Allocator> Refusing<A> {
     /// Refuses nothing yet.
     pub fn new(inner: A) -> Refusing<A> {
-        let (first, last) = Refusal::Never.span();
+        let (first, last) = RefusedCalls::Never.span();
         Refusing {
             inner,
             account: Account {
@@ -46,7 +46,7 @@ impl<A: Allocator> Refusing<A> {
     }
 
     /// Refuses these calls from now on, the next call being number 1. No other thread may ask for memory meanwhile.
-    pub fn refuse(&self, refusal: Refusal) {
+    pub fn refuse(&self, refusal: RefusedCalls) {
         let (first, last) = refusal.span();
         self.account.first.store(first, Ordering::SeqCst);
         self.account.last.store(last, Ordering::SeqCst);

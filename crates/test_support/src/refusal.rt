@@ -4,7 +4,7 @@ ghost use Rattle.test_support.specs.Refusals.{IsSpanOf};
 
 /// Which calls for memory are refused. Calls are counted from 1.
 #[derive(Clone, Copy, PartialEq, Eq, Debug)]
-pub enum Refusal {
+pub enum RefusedCalls {
     /// None.
     Never,
     /// The call of this number.
@@ -13,15 +13,15 @@ pub enum Refusal {
     NthOn(u64),
 }
 
-impl Refusal {
+impl RefusedCalls {
     /// The first call that is refused, and the last: the last is below the first where none is.
     pub fn span(self) -> (u64, u64)
         ensures { IsSpanOf self result.0 result.1 }
     {
         match self {
-            Refusal::Never => (1, 0),
-            Refusal::Nth(refused) => (refused, refused),
-            Refusal::NthOn(first) => (first, u64::MAX),
+            RefusedCalls::Never => (1, 0),
+            RefusedCalls::Nth(refused) => (refused, refused),
+            RefusedCalls::NthOn(first) => (first, u64::MAX),
         }
     }
 }

@@ -5,7 +5,7 @@ ghost use Rattle.std.specs.List.{list_any};
 ghost use Rattle.driver_book.specs.Calls.{is_open_for};
 ghost use Rattle.step_core.specs.Opening.{opening_of};
 
-use crate::fault::Fault;
+use crate::fault::TrialFault;
 use crate::reads::{Done, Shape, request};
 use block_image::Image;
 use driver_book::{BlankBook, Book, LogBrand, Seat};
@@ -50,13 +50,13 @@ impl Outside {
 }
 
 /// Reserves, after a look whether it may, as who finds pages and identifiers at once.
-fn reserved<L: LogBrand>(book: &mut Book<L>, request: Request) -> Result<Draft, Fault> {
+fn reserved<L: LogBrand>(book: &mut Book<L>, request: Request) -> Result<Draft, TrialFault> {
     if book.stopping() || book.reserve_refusal(1, &request).is_some() {
-        return Err(Fault::Refused);
+        return Err(TrialFault::Refused);
     }
     match book.reserve(1, request) {
         Ok(draft) => Ok(draft),
-        Err(_) => Err(Fault::Refused),
+        Err(_) => Err(TrialFault::Refused),
     }
 }
 
@@ -65,20 +65,20 @@ fn submitted<L: LogBrand>(
     book: &mut Book<L>,
     seat: &mut Seat<L>,
     draft: Draft,
-) -> Result<Ticket, Fault>
+) -> Result<Ticket, TrialFault>
     ensures { IfOk result (λ ticket. list_any (is_open_for ticket.q ticket.cid) seat.new.receipts ≡ true) }
 {
     match book.submit(seat, draft) {
         Ok(ticket) => Ok(ticket),
         Err(refused) => {
             drop(refused.value.apart());
-            Err(Fault::Refused)
+            Err(TrialFault::Refused)
         }
     }
 }
 
 /// Does what the controller can do.
-fn serve<L: LogBrand>(book: &mut Book<L>) -> Result<(), Fault> {
+fn serve<L: LogBrand>(book: &mut Book<L>) -> Result<(), TrialFault> {
     for _ in 0..u64::MAX {
         let done = match book.next_step() {
             None => return Ok(()),
@@ -87,36 +87,36 @@ fn serve<L: LogBrand>(book: &mut Book<L>) -> Result<(), Fault> {
             Some(ControllerStep::Complete { q, cid }) => book.complete(q, cid).is_ok(),
         };
         if !done {
-            return Err(Fault::Refused);
+            return Err(TrialFault::Refused);
         }
     }
-    Err(Fault::Refused)
+    Err(TrialFault::Refused)
 }
 
 /// Takes the completions that are there.
-fn reap<L: LogBrand>(book: &mut Book<L>) -> Result<(), Fault> {
+fn reap<L: LogBrand>(book: &mut Book<L>) -> Result<(), TrialFault> {
     for _ in 0..u64::MAX {
         match book.next_completion() {
             None => return Ok(()),
             Some(q) => {
                 if book.reap(q).is_err() {
-                    return Err(Fault::Refused);
+                    return Err(TrialFault::Refused);
                 }
             }
         }
     }
-    Err(Fault::Refused)
+    Err(TrialFault::Refused)
 }
 
 /// Collects a command.
-fn collected<L: LogBrand>(book: &mut Book<L>, ticket: Ticket) -> Result<Finished, Fault>
+fn collected<L: LogBrand>(book: &mut Book<L>, ticket: Ticket) -> Result<Finished, TrialFault>
     ensures { IfOk result (λ finished. (finished.q ≡ ticket.q) × (finished.cid ≡ ticket.cid)) }
 {
     match book.collect(ticket) {
         Ok(finished) => Ok(finished),
         Err(refused) => {
             drop(refused.value.apart());
-            Err(Fault::Refused)
+            Err(TrialFault::Refused)
         }
     }
 }
@@ -126,14 +126,14 @@ fn released<L: LogBrand>(
     book: &mut Book<L>,
     seat: &mut Seat<L>,
     finished: Finished,
-) -> Result<(), Fault>
+) -> Result<(), TrialFault>
     requires { list_any (is_open_for finished.q finished.cid) seat.old.receipts ≡ true }
 {
     match book.release(seat, finished) {
         Ok(()) => Ok(()),
         Err(refused) => {
             drop(refused.value.apart());
-            Err(Fault::Refused)
+            Err(TrialFault::Refused)
         }
     }
 }
@@ -144,13 +144,13 @@ fn served<L: LogBrand>(
     book: &mut Book<L>,
     seat: &mut Seat<L>,
     draft: Draft,
-) -> Result<Ticket, Fault>
+) -> Result<Ticket, TrialFault>
     ensures { IfOk result (λ ticket. list_any (is_open_for ticket.q ticket.cid) seat.new.receipts ≡ true) }
 {
     let mut draft = draft;
     if outside.build(&mut draft).is_err() {
         drop(draft.apart());
-        return Err(Fault::Memory);
+        return Err(TrialFault::Memory);
     }
     let ticket = submitted(book, seat, draft)?;
     let (q, cid) = (ticket.q(), ticket.cid());
@@ -162,7 +162,7 @@ fn served<L: LogBrand>(
         Ok(ticket)
     } else {
         drop(ticket.apart());
-        Err(Fault::Refused)
+        Err(TrialFault::Refused)
     }
 }
 
@@ -173,7 +173,7 @@ fn carry<L: LogBrand>(
     seat: &mut Seat<L>,
     worker: u16,
     blocks: u32,
-) -> Result<usize, Fault> {
+) -> Result<usize, TrialFault> {
     let request = outside.request(worker, blocks)?;
     let draft = reserved(book, request)?;
     let ticket = served(outside, book, seat, draft)?;
@@ -185,7 +185,7 @@ fn carry<L: LogBrand>(
         }
         Err(refused) => {
             drop(finished.apart());
-            Err(Fault::from(refused))
+            Err(TrialFault::from(refused))
         }
     }
 }
@@ -195,15 +195,15 @@ fn take_seats<L: LogBrand>(
     book: &mut Book<L>,
     seats: &mut Vec<Seat<L>>,
     count: u32,
-) -> Result<(), Fault> {
+) -> Result<(), TrialFault> {
     for _ in 0..count {
         match book.seat() {
             Ok(seat) => {
                 if seats.push(seat).is_err() {
-                    return Err(Fault::Memory);
+                    return Err(TrialFault::Memory);
                 }
             }
-            Err(_) => return Err(Fault::Refused),
+            Err(_) => return Err(TrialFault::Refused),
         }
     }
     Ok(())
@@ -215,7 +215,7 @@ fn carry_all<L: LogBrand>(
     book: &mut Book<L>,
     seats: &mut Vec<Seat<L>>,
     shape: Shape,
-) -> Result<u64, Fault> {
+) -> Result<u64, TrialFault> {
     take_seats(book, seats, shape.submitters)?;
     let mut bytes: u64 = 0;
     for _ in 0..shape.jobs {
@@ -239,7 +239,7 @@ pub fn read_alone<L: LogBrand>(
     times: u32,
     image: Image,
     blank: BlankBook,
-) -> Result<Done, Fault>
+) -> Result<Done, TrialFault>
     requires name { blank.ledger.name ≡ L.name }
     requires parts { blank.ledger.parts ≡ L.parts }
     requires number { blank.ledger.parts ≡ 65536 }
@@ -248,14 +248,14 @@ pub fn read_alone<L: LogBrand>(
 {
     let outside = Outside { alloc, times };
     let Ok(mut book) = Book::<L>::open(alloc, config, image, blank) else {
-        return Err(Fault::Refused);
+        return Err(TrialFault::Refused);
     };
     let mut seats = Vec::new(alloc);
     let carried = carry_all(outside, &mut book, &mut seats, shape);
     let entries = book.log().len();
     let closed = match book.close(seats) {
         Ok(report) => Ok(report.submissions),
-        Err(_) => Err(Fault::Refused),
+        Err(_) => Err(TrialFault::Refused),
     };
     drop(book);
     Ok(Done {

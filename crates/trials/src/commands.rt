@@ -2,7 +2,7 @@
 
 ghost use Rattle.std.specs.Prelude.{◌≡◌, IfOk};
 
-use crate::fault::Fault;
+use crate::fault::TrialFault;
 use crate::heap::Used;
 use crate::stage::STAGES;
 use io_commands::{BlockSize, Flags, Kind, Piece, Pieces, RequestOf};
@@ -38,11 +38,11 @@ fn did<'a>(
     bench: &mut Bench<&'a LocalHeap>,
     step: StepIn<&'a LocalHeap>,
     used: &mut Used,
-) -> Result<(), Fault> {
+) -> Result<(), TrialFault> {
     let reply = bench.step(step);
     used.note(heap.used());
     match reply {
-        Reply::Refused { .. } | Reply::NoValue | Reply::NotFilled(_) => Err(Fault::Refused),
+        Reply::Refused { .. } | Reply::NoValue | Reply::NotFilled(_) => Err(TrialFault::Refused),
         Reply::Reserved { .. }
         | Reply::Accepted
         | Reply::Fetched { .. }
@@ -65,7 +65,7 @@ pub fn carry<'a>(
     bench: &mut Bench<&'a LocalHeap>,
     commands: u16,
     used: &mut Used,
-) -> Result<(), Fault> {
+) -> Result<(), TrialFault> {
     for block in 0..commands {
         did(heap, bench, reserve(heap, block)?, used)?;
     }

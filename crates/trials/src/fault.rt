@@ -5,7 +5,7 @@ use thiserror::Error;
 
 /// Why the program ended early.
 #[derive(Clone, Copy, Debug, Error)]
-pub enum Fault {
+pub enum TrialFault {
     /// The arguments are at fault.
     #[error("usage: trials threads SUBMITTERS JOBS BLOCKS [DEPTH] | alone SUBMITTERS JOBS BLOCKS TIMES | heap | all")]
     Usage,
@@ -23,8 +23,8 @@ pub enum Fault {
     Output,
 }
 
-impl From<AllocError> for Fault {
+impl From<AllocError> for TrialFault {
     fn from(_refused: AllocError) -> Self {
-        Fault::Memory
+        TrialFault::Memory
     }
 }

@@ -3,7 +3,7 @@
 ghost use Rattle.std.specs.Prelude.{◌≡◌, ◌≤◌, ◌⊎◌};
 
 use crate::commands::carry;
-use crate::fault::Fault;
+use crate::fault::TrialFault;
 use crate::pools::{IMAGE_BLOCKS, Pool};
 use block_image::Image;
 use linked_list_allocator::LocalHeap;
@@ -34,13 +34,13 @@ impl Used {
 }
 
 /// Opens a bench in a heap, carries the commands through, and ends the bench.
-fn fill_heap(heap: &LocalHeap, pool: Pool, used: &mut Used) -> Result<(), Fault> {
+fn fill_heap(heap: &LocalHeap, pool: Pool, used: &mut Used) -> Result<(), TrialFault> {
     let Ok(image) = Image::zeroed(heap, IMAGE_BLOCKS) else {
-        return Err(Fault::Memory);
+        return Err(TrialFault::Memory);
     };
     used.image = heap.used();
     let Ok(mut bench) = Bench::open(heap, pool.config(), image) else {
-        return Err(Fault::NotOpened);
+        return Err(TrialFault::NotOpened);
     };
     used.opened = heap.used();
     let carried = carry(heap, &mut bench, pool.commands, used);
@@ -54,7 +54,7 @@ fn fill_heap(heap: &LocalHeap, pool: Pool, used: &mut Used) -> Result<(), Fault>
 ///
 /// `Memory` where the heap cannot be had, or has no room for the image or a request; `NotOpened` or `Refused` where it is too small otherwise, or the pool
 /// is none.
-pub fn use_heap(alloc: Global, pool: Pool) -> Result<Used, Fault> {
+pub fn use_heap(alloc: Global, pool: Pool) -> Result<Used, TrialFault> {
     let heap = LocalHeap::new(alloc, pool.heap)?;
     let mut used = Used {
         image: 0,

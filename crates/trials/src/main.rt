@@ -23,7 +23,7 @@ use alone::read_alone;
 use asked::{Asked, Way};
 use block_image::Image;
 use driver_book::BlankBook;
-use fault::Fault;
+use fault::TrialFault;
 use heap::use_heap;
 use pools::POOLS;
 use printing::print_numbers;
@@ -48,17 +48,17 @@ fn main(rt: HostRuntime) -> ExitCode {
 }
 
 /// What the command line asks for.
-fn read_words<R: Env + AllocGlobal>(rt: &R) -> Result<Asked, Fault> {
+fn read_words<R: Env + AllocGlobal>(rt: &R) -> Result<Asked, TrialFault> {
     let alloc = rt.alloc();
     let words: Vec<String> = match std::env::args(rt) {
         Ok(words) => words.collect(alloc)?,
-        Err(_) => return Err(Fault::Usage),
+        Err(_) => return Err(TrialFault::Usage),
     };
-    Asked::read(&words).ok_or(Fault::Usage)
+    Asked::read(&words).ok_or(TrialFault::Usage)
 }
 
 /// Reads the command line, and does what it asks for.
-fn start<R: Env + AllocGlobal + Print + Threads + Wait + Sync>(rt: &R) -> Result<(), Fault> {
+fn start<R: Env + AllocGlobal + Print + Threads + Wait + Sync>(rt: &R) -> Result<(), TrialFault> {
     match read_words(rt)? {
         Asked::Reads { way, shape } => carry_reads(rt, way, shape),
         Asked::Heap => fill_heaps(rt),
@@ -80,10 +80,10 @@ fn carry_reads<R: AllocGlobal + Print + Threads + Wait + Sync>(
     rt: &R,
     way: Way,
     shape: Shape,
-) -> Result<(), Fault> {
+) -> Result<(), TrialFault> {
     let alloc = rt.alloc();
     let Ok(image) = Image::zeroed(alloc, IMAGE_BLOCKS) else {
-        return Err(Fault::Memory);
+        return Err(TrialFault::Memory);
     };
     let done = match way {
         Way::Threads { depth } => {
@@ -104,7 +104,7 @@ fn carry_reads<R: AllocGlobal + Print + Threads + Wait + Sync>(
 }
 
 /// Carries the commands of each pool through in a heap, and prints what was used.
-fn fill_heaps<R: AllocGlobal + Print>(rt: &R) -> Result<(), Fault> {
+fn fill_heaps<R: AllocGlobal + Print>(rt: &R) -> Result<(), TrialFault> {
     for pool in POOLS {
         let used = use_heap(rt.alloc(), pool)?;
         print_numbers(

@@ -1,16 +1,16 @@
 //! Lines of numbers.
 
-use crate::fault::Fault;
+use crate::fault::TrialFault;
 
 /// Prints numbers with their labels before them, in one line.
 ///
 /// # Errors
 ///
 /// `Output` where the line could not be written.
-pub fn print_numbers<R: Print>(rt: &R, numbers: &[(&'static str, u64)]) -> Result<(), Fault> {
+pub fn print_numbers<R: Print>(rt: &R, numbers: &[(&'static str, u64)]) -> Result<(), TrialFault> {
     match print_line(rt, numbers) {
         Ok(()) => Ok(()),
-        Err(_) => Err(Fault::Output),
+        Err(_) => Err(TrialFault::Output),
     }
 }
 

@@ -3,7 +3,7 @@
 ghost use Rattle.std.specs.Prelude.{◌≡◌, ◌≤◌, vec_len, IfOk};
 ghost use Rattle.step_core.specs.Opening.{opening_of};
 
-use crate::fault::Fault;
+use crate::fault::TrialFault;
 use crate::reads::{Done, MOST_DEPTH, Shape, request};
 use block_image::Image;
 use driver_book::{BlankBook, LogBrand};
@@ -66,7 +66,7 @@ pub fn read_in_threads<L: LogBrand + Send + Sync, R: Threads + Wait + Sync>(
     depth: u32,
     image: Image,
     blank: BlankBook,
-) -> Result<Done, Fault>
+) -> Result<Done, TrialFault>
     requires name { blank.ledger.name ≡ L.name }
     requires parts { blank.ledger.parts ≡ L.parts }
     requires number { blank.ledger.parts ≡ 65536 }
@@ -75,7 +75,7 @@ pub fn read_in_threads<L: LogBrand + Send + Sync, R: Threads + Wait + Sync>(
 {
     let jobs = all_jobs(alloc, shape)?;
     if jobs.is_empty() || jobs.len() > 16 || depth == 0 || depth > MOST_DEPTH {
-        return Err(Fault::Usage);
+        return Err(TrialFault::Usage);
     }
     let depth = depth as usize;
     let server = Server::Ringer;
@@ -83,7 +83,7 @@ pub fn read_in_threads<L: LogBrand + Send + Sync, R: Threads + Wait + Sync>(
         rt, alloc, config, image, jobs, depth, server, &Open, blank,
     ) {
         Ok(ran) => ran,
-        Err(_) => return Err(Fault::Refused),
+        Err(_) => return Err(TrialFault::Refused),
     };
     match bytes_of(&ran.jobs) {
         Some(bytes) => Ok(Done {
@@ -91,6 +91,6 @@ pub fn read_in_threads<L: LogBrand + Send + Sync, R: Threads + Wait + Sync>(
             entries: ran.book.log().len(),
             bytes,
         }),
-        None => Err(Fault::Refused),
+        None => Err(TrialFault::Refused),
     }
 }

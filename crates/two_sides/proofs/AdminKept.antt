@@ -12,10 +12,10 @@ use Rattle.entry_codec.specs.declared.{status.Status.Status, submission.SubEntry
 use Rattle.two_sides.specs.{Hearing.heard, Sides.Sides, Ties.SharesAdmin}
 use Rattle.page_memory.specs.{Pages.Pages, declared.page.Half.{Half, TheVariants.{Submission, Completion}}}
 use Rattle.queue_pair.specs.{Memory.half_pages, Rings.{HostRing, hearing_head, hearing_tail, knowing, next_head, next_tail}, Slots.is_in_range}
-use Rattle.controller_core.specs.{Completing.{queues_of_end, without_submission}, Contents.{Contents, Work, is_deletion}}
+use Rattle.controller_core.specs.{Completing.{queues_of_end, without_submission}, Contents.{Contents, FetchedWork, is_deletion}}
 use Rattle.controller_core.specs.Doorbells.{with_side, with_tail, with_head}
 use Rattle.controller_core.specs.Managing.{queues_after, stopping, with_completion, with_submission, without_completion}
-use Rattle.controller_core.specs.declared.{command.Work.TheVariants.{Io, Admin}, queue.ControllerQueue.ControllerQueue}
+use Rattle.controller_core.specs.declared.{command.FetchedWork.TheVariants.{Io, Admin}, queue.ControllerQueue.ControllerQueue}
 use Rattle.host_core.specs.{Alone.{HostView, HostStep, alone}, Ringing.{tail_of, head_rung}}
 use Rattle.machine_model.proofs.{Kept.{making_cq_as_heard, making_sq_as_heard}, Moves.{half_from, host_moves}, Owned.{HoldsPart, holds_from_sound}}
 use Rattle.machine_model.{proofs.Steps.{Accepts, kept_anyway, part_left}, specs.{After.change, Claims.{AdminLives, IsSound}}}
@@ -267,7 +267,7 @@ admin_verdict e view n hs cs share = by_verdict (decision e view) (decides e vie
     by_verdict (MakeCompletion q base) d = places_past n q (with_completion base) hs cs d.other share
     by_verdict (MakeSubmission q base) d = places_past n q (with_submission base) hs cs d.other share
 
-pub admin_ended : (n : ℕ) (work : Work) (hs : List HostQueue) (cs : List ControllerQueue) → SharesAdmin n hs cs → SharesAdmin n hs (queues_of_end work cs)
+pub admin_ended : (n : ℕ) (work : FetchedWork) (hs : List HostQueue) (cs : List ControllerQueue) → SharesAdmin n hs cs → SharesAdmin n hs (queues_of_end work cs)
 admin_ended n (Io job) hs cs share = share
 admin_ended n (Admin entry status dw0) hs cs share = by_deletion (is_deletion entry status)
   where

@@ -1,8 +1,8 @@
 -- Completions are steps of the machine.
 use Rattle.controller_core.{proofs.{Lists.change-change, Rows.end-posted}, specs.Posting.{completion_by, page_posted, post_refusal, with_posted}}
 use Rattle.controller_core.specs.Completing.{image_of_end, queues_of_end, status_of_end, without_command, without_submission, CompletesTo, command_refusal, complete_refusal, has_success, waits_among}
-use Rattle.controller_core.specs.Contents.{FetchedCommand, FitsWork, Work, is_deletion, Contents, IsController, dw0_of_work, entry_of_work, is_command, verdict_of_work}
-use Rattle.controller_core.specs.declared.{command.Work.TheVariants.{Io, Admin}, queue.ControllerQueue.ControllerQueue}
+use Rattle.controller_core.specs.Contents.{FetchedCommand, FitsWork, FetchedWork, is_deletion, Contents, IsController, dw0_of_work, entry_of_work, is_command, verdict_of_work}
+use Rattle.controller_core.specs.declared.{command.FetchedWork.TheVariants.{Io, Admin}, queue.ControllerQueue.ControllerQueue}
 use Rattle.std.proofs.Common.{◌≡◌, ℕ, zero, ◌<◌, Bool, true, false, not, Option, Some, None, List, map, filter, slice_get, if◌then◌else◌, refl, ap₂, sym, ◌∙◌, arith, inl, inr, ◌≢◌, ◌==◌, ◌&&◌, ◌||◌, ◌++◌, Ok, Err, IfSome, IsSome, is_none, is_some, [], ◌∷◌, length, find, ap, subst}
 use Rattle.std.{proofs.lemmas.Bool.{eqb-false, true≢false, cases_Bool, and_parts, not-false}, specs.Option.{option_map, option_map_or}}
 use Rattle.admin_commands.specs.{Entries.named_queue, Verdicts.is_absent}
@@ -26,8 +26,8 @@ use Rattle.two_sides.specs.Ties.{AllQueuesStand, QueueStands, ShareQueue, ShareQ
 use Rattle.page_memory.specs.{Memory.Memory, Pages.{Pages, byte_at}}
 use Rattle.block_image.specs.Blocks.{block_count}
 use Rattle.queue_pair.{proofs.Halves.completion_there, specs.{Memory.completion_slot, Slots.is_full}}
-use Rattle.controller_core.specs.declared.refusal.Refusal as controller
-use Rattle.controller_core.specs.declared.refusal.Refusal.TheVariants as because
+use Rattle.controller_core.specs.declared.refusal.ControllerRefusal.{ControllerRefusal}
+use Rattle.controller_core.specs.declared.refusal.ControllerRefusal.TheVariants as because
 use Rattle.machine_model.specs.Events as events
 use Rattle.machine_model.specs.declared.words.Refusal.TheVariants as refusal
 use Rattle.page_memory.proofs.Lists.{all-filter}
@@ -37,17 +37,17 @@ use Rattle.page_memory.proofs.Lists.{some_is}
 
 -- A completion can carry each end.
 
-pub end_fits : (blocks q done : ℕ) (image : List ℕ) (work : Work) → FitsWork blocks q done work → (status_of_end image work).sct < 8
+pub end_fits : (blocks q done : ℕ) (image : List ℕ) (work : FetchedWork) → FitsWork blocks q done work → (status_of_end image work).sct < 8
 end_fits blocks q done image work fits = grind arith
 
 -- The queues
 
 -- the machine's queues after the end of a command
-abbrev pub controllers_of_end : Work → List ServedQueue → List ServedQueue
+abbrev pub controllers_of_end : FetchedWork → List ServedQueue → List ServedQueue
 controllers_of_end (Io job) queues = queues
 controllers_of_end (Admin entry status dw0) queues = if is_deletion entry status then change (named_queue entry) cleared queues else queues
 
-pub controllers_ended : (m : Memory) (work : Work) (hs : List HostQueue) (cs : List ControllerQueue) → served_queues_of m hs (queues_of_end work cs) ≡ controllers_of_end work (served_queues_of m hs cs)
+pub controllers_ended : (m : Memory) (work : FetchedWork) (hs : List HostQueue) (cs : List ControllerQueue) → served_queues_of m hs (queues_of_end work cs) ≡ controllers_of_end work (served_queues_of m hs cs)
 controllers_ended m (Io job) hs cs = refl
 controllers_ended m (Admin entry status dw0) hs cs = by_deletion (is_deletion entry status)
   where
@@ -55,7 +55,7 @@ controllers_ended m (Admin entry status dw0) hs cs = by_deletion (is_deletion en
     by_deletion true = controllers_changed m m (named_queue entry) without_submission cleared hs cs (λ h c e f. refl) (λ i h c other e f. refl)
     by_deletion false = refl
 
-pub stands_ended : (n : ℕ) (m : Memory) (work : Work) (hs : List HostQueue) (cs : List ControllerQueue) → AllQueuesStand n m zero hs cs → AllQueuesStand n m zero hs (queues_of_end work cs)
+pub stands_ended : (n : ℕ) (m : Memory) (work : FetchedWork) (hs : List HostQueue) (cs : List ControllerQueue) → AllQueuesStand n m zero hs cs → AllQueuesStand n m zero hs (queues_of_end work cs)
 stands_ended n m (Io job) hs cs all = all
 stands_ended n m (Admin entry status dw0) hs cs all = by_deletion (is_deletion entry status)
   where
@@ -72,7 +72,7 @@ stands_ended n m (Admin entry status dw0) hs cs all = by_deletion (is_deletion e
     by_deletion true = stands_changed n m m (named_queue entry) without_submission hs cs (λ h c e f stands. without (named_queue entry) h c stands) (λ i h c other e f stands. stands) all
     by_deletion false = all
 
-pub share_ended : (n : ℕ) (work : Work) (hs : List HostQueue) (cs : List ControllerQueue) → ShareQueues n zero hs cs → ShareQueues n zero hs (queues_of_end work cs)
+pub share_ended : (n : ℕ) (work : FetchedWork) (hs : List HostQueue) (cs : List ControllerQueue) → ShareQueues n zero hs cs → ShareQueues n zero hs (queues_of_end work cs)
 share_ended n (Io job) hs cs share = share
 share_ended n (Admin entry status dw0) hs cs share = by_deletion (is_deletion entry status)
   where
@@ -84,7 +84,7 @@ share_ended n (Admin entry status dw0) hs cs share = by_deletion (is_deletion en
     by_deletion false = share
 
 -- A command's own queue isn't the one that it deletes.
-pub controllers_end_elsewhere : (blocks q done : ℕ) (work : Work) (queues : List ServedQueue) → FitsWork blocks q done work → slice_get (controllers_of_end work queues) q ≡ slice_get queues q
+pub controllers_end_elsewhere : (blocks q done : ℕ) (work : FetchedWork) (queues : List ServedQueue) → FitsWork blocks q done work → slice_get (controllers_of_end work queues) q ≡ slice_get queues q
 controllers_end_elsewhere blocks q done (Io job) queues fits = refl
 controllers_end_elsewhere blocks q done (Admin entry status dw0) queues fits = elim (cases_Bool (is_deletion entry status)) [
   | inl e ↦ rw e (change-other (named_queue entry) q cleared queues (λ same. eqb-false (named_queue entry) 0 (fits.2 e) (same ∙ fits.0)))
@@ -92,7 +92,7 @@ controllers_end_elsewhere blocks q done (Admin entry status dw0) queues fits = e
 ]
 
 -- Another change of a queue commutes with it.
-pub controllers_end_behind : (work : Work) (q : ℕ) (f : ServedQueue → ServedQueue) (queues : List ServedQueue) → ((at : ServedQueue) → cleared (f at) ≡ f (cleared at))
+pub controllers_end_behind : (work : FetchedWork) (q : ℕ) (f : ServedQueue → ServedQueue) (queues : List ServedQueue) → ((at : ServedQueue) → cleared (f at) ≡ f (cleared at))
     → controllers_of_end work (change q f queues) ≡ change q f (controllers_of_end work queues)
 controllers_end_behind (Io job) q f queues bears = refl
 controllers_end_behind (Admin entry status dw0) q f queues bears = by_deletion (is_deletion entry status)
@@ -183,14 +183,14 @@ complete_refused_alike s q cid world t = by_command (find (is_command q cid) s.c
         (none_some _ (completion_there (byte_at s.pages) c.controller.cq s.host.entries c.controller.ring.tail (known.completion_in used) (subst (λ (n : ℕ). c.controller.ring.tail < n) known.placed.share.entries known.placed.share.side.tail)))
         ∙ ap (λ (o : Option ControllerQueue). option_map why_of (if is_none (verdict_of_work k.work) then Some because.Walking else if waits_among s.controller.commands k then Some because.Waits else option_map_or (λ queue. post_refusal (byte_at s.pages) queue.controller) o None)) (sym found.queue_here)
 
-may_refuse : (s : Sides) (q cid : ℕ) (why : controller.Refusal) → IsWorld s → complete_refusal s.controller (byte_at s.pages) q cid ≡ Some why → Permits (state_of s) (events.Complete q cid) (events.Refused (why_of why) [])
+may_refuse : (s : Sides) (q cid : ℕ) (why : ControllerRefusal) → IsWorld s → complete_refusal s.controller (byte_at s.pages) q cid ≡ Some why → Permits (state_of s) (events.Complete q cid) (events.Refused (why_of why) [])
 may_refuse s q cid why world e =
-    subst (λ (o : Option controller.Refusal). IfSome o Allowed) e (causes (find (is_command q cid) s.controller.commands)) (λ t. complete_refused_alike s q cid world t ∙ ap (option_map why_of) e)
+    subst (λ (o : Option ControllerRefusal). IfSome o Allowed) e (causes (find (is_command q cid) s.controller.commands)) (λ t. complete_refused_alike s q cid world t ∙ ap (option_map why_of) e)
   where
-    Allowed : controller.Refusal → Type 0
+    Allowed : ControllerRefusal → Type 0
     Allowed why = (s.trusted ≡ true → refusal_of (state_of s) (events.Complete q cid) ≡ Some (why_of why)) → Permits (state_of s) (events.Complete q cid) (events.Refused (why_of why) [])
 
-    first : (b : Bool) (why : controller.Refusal) (o : Option controller.Refusal) → Allowed why → IfSome o Allowed → IfSome (if b then Some why else o) Allowed
+    first : (b : Bool) (why : ControllerRefusal) (o : Option ControllerRefusal) → Allowed why → IfSome o Allowed → IfSome (if b then Some why else o) Allowed
     first true why o here rest = here
     first false why o here rest = rest
 
@@ -208,7 +208,7 @@ may_refuse s q cid why world e =
 
 -- An accepted completion
 
-refused_not : (b : Bool) (why : controller.Refusal) (o : Option controller.Refusal) → (if b then Some why else o) ≡ None → (b ≡ false) × (o ≡ None)
+refused_not : (b : Bool) (why : ControllerRefusal) (o : Option ControllerRefusal) → (if b then Some why else o) ≡ None → (b ≡ false) × (o ≡ None)
 refused_not true why o e = cc
 refused_not false why o e = (refl, e)
 

@@ -1,5 +1,5 @@
 -- Completions that are posted, taken and forged.
-use Rattle.controller_core.specs.declared.refusal.Refusal.TheVariants as refusal
+use Rattle.controller_core.specs.declared.refusal.ControllerRefusal.TheVariants as refusal
 use Rattle.machine_model.specs.Events as events
 use Rattle.std.proofs.Common.{◌≡◌, ◌≢◌, ℕ, ◌+◌, ◌*◌, ◌/◌, ◌%◌, ◌<◌, Bool, true, false, Option, Some, None, IsSome, List, [], ◌∷◌, ◌++◌, length, map, is_none, slice_get, if◌then◌else◌, refl, ap, ap₂, sym, ◌∙◌, arith, subst, inl, inr, zero, suc, drop, is_some}
 use Rattle.std.{proofs.lemmas.Bool.{true≢false, not-false, Decides.nat_tests}, specs.{List.AllByRecursion, Option.{option_map, option_map_or}}}

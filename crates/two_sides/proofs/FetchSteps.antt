@@ -1,8 +1,8 @@
 -- Fetches are steps of the machine.
-use Rattle.controller_core.specs.declared.refusal.Refusal.TheVariants as because
+use Rattle.controller_core.specs.declared.refusal.ControllerRefusal.TheVariants as because
 use Rattle.machine_model.specs.Events as events
 use Rattle.machine_model.specs.declared.words.Refusal.TheVariants as refusal
-use Rattle.controller_core.specs.declared.refusal.Refusal as controller
+use Rattle.controller_core.specs.declared.refusal.ControllerRefusal.{ControllerRefusal}
 use Rattle.machine_model.specs.After as after
 use Rattle.std.proofs.Common.{◌≡◌, ◌≢◌, ◌⊎◌, inl, inr, ℕ, zero, suc, ◌+◌, ◌*◌, ◌/◌, ◌==◌, ◌&&◌, nat_lt, not, Bool, true, false, Option, Some, None, is_none, is_some, List, [], ◌∷◌, slice_get, if◌then◌else◌, refl, ap, sym, ◌∙◌, arith, subst, eqb-true, ◌-◌, ◌<◌, Ok, Err, ◌++◌, length, map, drop}
 use Rattle.std.{proofs.lemmas.Bool.{true≢false, eqb-false, OnTrue_at, cases_Bool}, specs.Option.{option_map, option_map_or}}
@@ -14,7 +14,7 @@ use Rattle.controller_core.specs.Posting.{post_refusal_at, completion_by, page_p
 use Rattle.controller_core.specs.Contents.{Contents, FetchedCommand, IsController, change}
 use Rattle.controller_core.specs.Fetching.{LooksAt, fetch_refusal, is_known, live_side, look_refusal, PostsConflict, IsBegun, RefusedBy, RefusedEntry, Takes, TakesIn, begun, entry_refusal, side_refusal}
 use Rattle.controller_core.specs.Managing.{admin_work, command_of, commands_after, managed, verdict_for, view_for, with_taken}
-use Rattle.controller_core.specs.declared.{command.Work.TheVariants.Io, queue.ControllerQueue.ControllerQueue}
+use Rattle.controller_core.specs.declared.{command.FetchedWork.TheVariants.Io, queue.ControllerQueue.ControllerQueue}
 use Rattle.entry_codec.specs.{Completion.completion_bytes, declared.{completion.ComEntry.ComEntry, status.TheConstants.Status.COMMAND_ID_CONFLICT}}
 use Rattle.entry_codec.specs.declared.submission.SubEntry.{SubEntry}
 use Rattle.two_sides.proofs.{AdminKept.{admin_verdict, places_left}, Agreed.stood_of}
@@ -181,10 +181,10 @@ refuse_alike s q world t = elim (looks s q world t) [
 -- What is refused
 
 -- a look finds nothing, or no bytes
-look_is : (P : controller.Refusal → Type 0) → P because.Idle → P because.SlotOut → (s : Sides) (q : ℕ) (why : controller.Refusal) → look_refusal s.controller (byte_at s.pages) q ≡ Some why → P why
+look_is : (P : ControllerRefusal → Type 0) → P because.Idle → P because.SlotOut → (s : Sides) (q : ℕ) (why : ControllerRefusal) → look_refusal s.controller (byte_at s.pages) q ≡ Some why → P why
 look_is P idle out s q why e = by_queue (slice_get s.controller.queues q) e
   where
-    is : (cause : controller.Refusal) → P cause → Some cause ≡ Some why → P why
+    is : (cause : ControllerRefusal) → P cause → Some cause ≡ Some why → P why
     is cause p e = let same : cause ≡ why = cc in subst P same p
 
     side : (b : Bool) (o : Option SubEntry) → (if b then Some because.Idle else option_map_or (λ e. None) o (Some because.SlotOut)) ≡ Some why → P why
@@ -200,24 +200,24 @@ look_is P idle out s q why e = by_queue (slice_get s.controller.queues q) e
     by_queue None e = is because.Idle idle e
     by_queue (Some c) e = live c (is_live c.state) e
 
-look_permits : (s : Sides) (q : ℕ) (why : controller.Refusal) → IsWorld s → look_refusal s.controller (byte_at s.pages) q ≡ Some why → Permits (state_of s) (events.Fetch q) (events.Refused (why_of why) [])
+look_permits : (s : Sides) (q : ℕ) (why : ControllerRefusal) → IsWorld s → look_refusal s.controller (byte_at s.pages) q ≡ Some why → Permits (state_of s) (events.Fetch q) (events.Refused (why_of why) [])
 look_permits s q why world e =
     either_by s.trusted _ _
     (λ t. elim (looks s q world t) [
       | inl (look, none, idle) ↦
           let is : Some because.Idle ≡ Some why = sym look ∙ e in
           let same : because.Idle ≡ why = cc in
-          subst (λ (w : controller.Refusal). Refuses (state_of s) (events.Fetch q) (why_of w) []) same (refuse_alike s q world t ∙ ap (option_map why_of) none, refl)
+          subst (λ (w : ControllerRefusal). Refuses (state_of s) (events.Fetch q) (why_of w) []) same (refuse_alike s q world t ∙ ap (option_map why_of) none, refl)
       | inr (look, none, found) ↦ absurd (let bad : None ≡ Some why = sym look ∙ e in cc)
     ])
-    (λ f. look_is (λ (w : controller.Refusal). MayRefuse (events.Fetch q) (why_of w) []) refl (omega arith) s q why e)
+    (λ f. look_is (λ (w : ControllerRefusal). MayRefuse (events.Fetch q) (why_of w) []) refl (omega arith) s q why e)
 
 -- no room for a completion at once, or no memory for the command
-cause_is : (P : controller.Refusal → Type 0) → P because.Full → P because.SlotOut → P because.Memory → (m : Memory) (why : controller.Refusal) (known : Bool) (o : Option ControllerQueue)
+cause_is : (P : ControllerRefusal → Type 0) → P because.Full → P because.SlotOut → P because.Memory → (m : Memory) (why : ControllerRefusal) (known : Bool) (o : Option ControllerQueue)
     → (if known then (if known then option_map_or (λ queue. post_refusal m queue.controller) o None else None) else Some because.Memory) ≡ Some why → P why
 cause_is P full out memory m why known o e = by_identifier known o e
   where
-    is : (cause : controller.Refusal) → P cause → Some cause ≡ Some why → P why
+    is : (cause : ControllerRefusal) → P cause → Some cause ≡ Some why → P why
     is cause p e = let same : cause ≡ why = cc in subst P same p
 
     post : (a b : Bool) → (if a then Some because.Full else if b then Some because.SlotOut else None) ≡ Some why → P why
@@ -230,18 +230,18 @@ cause_is P full out memory m why known o e = by_identifier known o e
     by_identifier true (Some c) e = post (is_full c.controller.entries c.controller.ring.known_head c.controller.ring.tail) (is_none (completion_slot m c.controller.cq c.controller.ring.tail)) e
     by_identifier false o e = is because.Memory memory e
 
-entry_permits : (s : Sides) (q : ℕ) (why : controller.Refusal) (touched : List ℕ) → IsWorld s → RefusedEntry s.controller (byte_at s.pages) [] q why touched → Permits (state_of s) (events.Fetch q) (events.Refused (why_of why) touched)
+entry_permits : (s : Sides) (q : ℕ) (why : ControllerRefusal) (touched : List ℕ) → IsWorld s → RefusedEntry s.controller (byte_at s.pages) [] q why touched → Permits (state_of s) (events.Fetch q) (events.Refused (why_of why) touched)
 entry_permits s q why touched world r =
     let (c, l, one) = looked s q r.entry touched r.looks in
     either_by s.trusted _ _
     (λ t. let is = seen s q c r.entry world t l in
     let cause : Some because.Memory ≡ Some why = ap (λ (b : Bool). if b then entry_refusal s.controller (byte_at s.pages) q r.entry else Some because.Memory) (sym is.unknown) ∙ r.cause in
     let same : because.Memory ≡ why = cc in
-    subst (λ (w : controller.Refusal). Refuses (state_of s) (events.Fetch q) (why_of w) touched) same (refl, accepts s q c r.entry is, one ∙ ap (λ (p : ℕ). p ∷ []) (sym is.page)))
+    subst (λ (w : ControllerRefusal). Refuses (state_of s) (events.Fetch q) (why_of w) touched) same (refl, accepts s q c r.entry is, one ∙ ap (λ (p : ℕ). p ∷ []) (sym is.page)))
     (λ f. subst (λ (pages : List ℕ). MayRefuse (events.Fetch q) (why_of why) pages) (sym one)
-    (cause_is (λ (w : controller.Refusal). MayRefuse (events.Fetch q) (why_of w) (page_of_head c ∷ [])) refl (omega arith) refl (byte_at s.pages) why (is_known s.controller q r.entry) (slice_get s.controller.queues q) r.cause))
+    (cause_is (λ (w : ControllerRefusal). MayRefuse (events.Fetch q) (why_of w) (page_of_head c ∷ [])) refl (omega arith) refl (byte_at s.pages) why (is_known s.controller q r.entry) (slice_get s.controller.queues q) r.cause))
 
-refused : (s : Sides) (q : ℕ) (why : controller.Refusal) (touched : List ℕ) → IsWorld s → (o : Option controller.Refusal) → look_refusal s.controller (byte_at s.pages) q ≡ o → RefusedBy o s.controller (byte_at s.pages) [] q why touched
+refused : (s : Sides) (q : ℕ) (why : ControllerRefusal) (touched : List ℕ) → IsWorld s → (o : Option ControllerRefusal) → look_refusal s.controller (byte_at s.pages) q ≡ o → RefusedBy o s.controller (byte_at s.pages) [] q why touched
     → Permits (state_of s) (events.Fetch q) (events.Refused (why_of why) touched)
 refused s q why touched world None e r = entry_permits s q why touched world r
 refused s q why touched world (Some cause) e r =

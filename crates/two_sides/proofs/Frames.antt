@@ -15,7 +15,7 @@ use Rattle.two_sides.specs.Sides.{Sides, state_of, served_queue_of, served_queue
 use Rattle.two_sides.specs.Ties.{AreSides, AreTied, IsOwned, IsWorld, ShareQueue, ShareQueues, RingsStand, QueueStands, AllQueuesStand, first_completion_page, has_ring, WalkStands, WalksStand, HeadsFollow, ShareHalves}
 use Rattle.page_ledger.specs.Owners.{is_among, pages_from}
 use Rattle.admin_commands.specs.Verdicts.{is_absent}
-use Rattle.controller_core.specs.{Contents.{FetchedCommand, FitsCommand, FitsWork, Work}, declared.command.Work.TheVariants.{Io, Admin}}
+use Rattle.controller_core.specs.{Contents.{FetchedCommand, FitsCommand, FitsWork, FetchedWork}, declared.command.FetchedWork.TheVariants.{Io, Admin}}
 use Rattle.controller_core.specs.declared.queue.ControllerQueue.{ControllerQueue}
 use Rattle.page_memory.specs.{Memory.Memory, Pages.{byte_at, Pages, page_at}, declared.page.Half.TheVariants.{Submission, Completion}}
 use Rattle.queue_pair.{proofs.Halves.{pages_in, pages_agree, entries_agree, posted_agree, phases_agree}, specs.{Halves.{IsIn, Agree}, Lists.PhasesStand}}
@@ -267,7 +267,7 @@ still_stands s pages world t stay =
     (job_served (state_of s) pages i (job_of k) (stood s world t) stay (slice_get-map job_of s.controller.commands i ∙ ap (option_map job_of) at)))
     (tied_of s world t).walks
   where
-    one : (q : ℕ) (waiting : Option ℕ) (work : Work) (done : ℕ) → FitsWork (block_count s.controller.image) q done work
+    one : (q : ℕ) (waiting : Option ℕ) (work : FetchedWork) (done : ℕ) → FitsWork (block_count s.controller.image) q done work
         → (let j : Job = job_of (record { q = q; units_done = done; waiting_abort = waiting; work = work }) in (j.q == 0) ≡ false → Serves (memory_of s.pages) (memory_of pages) (course_of (state_of s) j))
         → WalkStands (memory_of s.pages) done work → WalkStands (memory_of pages) done work
     one q waiting (Io job) done fits serves stands = λ none. stands_again (memory_of s.pages) (memory_of pages) done job (serves fits.0) (stands none)

@@ -8,9 +8,9 @@ use Rattle.admin_commands.specs.{Entries.{named_queue, named_command, named_base
 use Rattle.admin_commands.specs.declared.AdminVerdict.TheVariants.{Answer, AbortJob, StopQueue, DropCompletion, MakeCompletion, MakeSubmission}
 use Rattle.admin_commands.specs.declared.{DeviceView.DeviceView, SqState.TheVariants.{Absent, Stopping}}
 use Rattle.controller_core.proofs.Lists.{count-cons, one, length-change}
-use Rattle.controller_core.specs.Contents.{FetchedCommand, Work, is_command, verdict_of_work, change as change_contents}
+use Rattle.controller_core.specs.Contents.{FetchedCommand, FetchedWork, is_command, verdict_of_work, change as change_contents}
 use Rattle.controller_core.specs.Managing.{aborted, admin_work, command_of, commands_after, queues_after, stopped_with_queue, stopped_work, stopping, view_for, with_completion, with_submission, with_taken, without_completion}
-use Rattle.controller_core.specs.declared.{command.Work.TheVariants.{Io, Admin}, queue.ControllerQueue.ControllerQueue}
+use Rattle.controller_core.specs.declared.{command.FetchedWork.TheVariants.{Io, Admin}, queue.ControllerQueue.ControllerQueue}
 use Rattle.entry_codec.specs.declared.{admin_opcode.TheConstants.{CREATE_IO_CQ, CREATE_IO_SQ}, status.Status.Status}
 use Rattle.entry_codec.specs.declared.{status.TheConstants.Status.{SUCCESS, ABORT_REQUESTED, ABORTED_SQ_DELETION}, submission.SubEntry.SubEntry}
 use Rattle.two_sides.proofs.AdminKept.{same_decision, Decides, decides}
@@ -199,7 +199,7 @@ verdict_stand v t suits share all = by_verdict v suits
     by_verdict x suits = all
 
 -- a walk that is stopped has nothing to stand for
-stopped_stands : (m : Memory) (done : ℕ) (st : Status) (work : Work) → WalkStands m done work → WalkStands m done (stopped_work st work)
+stopped_stands : (m : Memory) (done : ℕ) (st : Status) (work : FetchedWork) → WalkStands m done work → WalkStands m done (stopped_work st work)
 stopped_stands m done st (Io job) h = cond_both (is_none job.verdict) (record job { verdict = Some st }) job (λ job. WalkStands m done (Io job)) (λ e none. absurd (cc)) (λ e. h)
 stopped_stands m done st (Admin entry status dw0) h = h
 

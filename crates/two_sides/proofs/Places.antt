@@ -4,8 +4,8 @@ use Rattle.std.proofs.Common.{◌≡◌, ℕ, zero, suc, ◌*◌, ◌-◌, ◌/�
 use Rattle.std.{proofs.lemmas.Bool.{cases_eq, cases_Bool, and_parts, true≢false, Decides.nat_tests}, specs.List.{AllByRecursion, list_any, count_by}}
 use Rattle.std.specs.{Option.{option_map, option_and_then, option_map_or}, Prelude.slice_index}
 use Rattle.admin_commands.specs.{Verdicts.is_absent, declared.AdminKind.{AdminKind, TheVariants.{DeleteCq, CreateCq, CreateSq}}}
-use Rattle.controller_core.{proofs.Lists.{count-cons, here_counted, one}, specs.Contents.{FetchedCommand, FitsCommand, Work, entry_of_work, is_command}}
-use Rattle.controller_core.specs.declared.{command.Work.TheVariants.Io, queue.ControllerQueue.ControllerQueue}
+use Rattle.controller_core.{proofs.Lists.{count-cons, here_counted, one}, specs.Contents.{FetchedCommand, FitsCommand, FetchedWork, entry_of_work, is_command}}
+use Rattle.controller_core.specs.declared.{command.FetchedWork.TheVariants.Io, queue.ControllerQueue.ControllerQueue}
 use Rattle.host_core.{proofs.{Lists.change-same, QueueLists.index-from}, specs.Alone.alone}
 use Rattle.machine_model.proofs.{Counting.one as one_counting, Kept.service_is_reaped as served_reaped}
 use Rattle.machine_model.proofs.{Moves.{seen_trusted, IsHeard, completion_heard}, Tokens.{is_job, kind_known}}
@@ -317,14 +317,14 @@ pub job-found : (s : Sides) (q cid : ℕ) (k : FetchedCommand) → find (is_comm
 job-found s q cid k e = job-at s q cid ∙ ap (option_map job_of) e
 
 -- a command as the machine's job, where its work is known
-abbrev pub with_work : FetchedCommand → Work → FetchedCommand
+abbrev pub with_work : FetchedCommand → FetchedWork → FetchedCommand
 with_work k work = record k { work = work }
 
 abbrev pub seen : FetchedCommand → JobContents → Job
 seen k job = job_of (with_work k (Io job))
 
 pub seen_is : (k : FetchedCommand) (job : JobContents) → k.work ≡ Io job → job_of k ≡ seen k job
-seen_is k job e = ap (λ (work : Work). job_of (with_work k work)) e
+seen_is k job e = ap (λ (work : FetchedWork). job_of (with_work k work)) e
 
 -- what is known of a command that is found: it fits, and its queue is there
 pub record IsFound (s : Sides) (q cid : ℕ) (k : FetchedCommand) : Type 0 where

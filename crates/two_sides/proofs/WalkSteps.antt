@@ -6,8 +6,8 @@ use Rattle.machine_model.specs.{Memory.memory_of, Refusals.{job_at, refusal_of},
 use Rattle.machine_model.specs.Step.{Permits, unit_answered}
 use Rattle.block_image.specs.Blocks.{block_count}
 use Rattle.controller_core.proofs.Lists.{all_set}
-use Rattle.controller_core.specs.Contents.{Contents, FetchedCommand, FitsWork, IsController, Work, is_command, verdict_of_work}
-use Rattle.controller_core.specs.{Walking.{WalksTo, ended_refusal, stepped, walk_refusal}, declared.command.Work.TheVariants.{Io, Admin}}
+use Rattle.controller_core.specs.Contents.{Contents, FetchedCommand, FitsWork, IsController, FetchedWork, is_command, verdict_of_work}
+use Rattle.controller_core.specs.{Walking.{WalksTo, ended_refusal, stepped, walk_refusal}, declared.command.FetchedWork.TheVariants.{Io, Admin}}
 use Rattle.controller_walk.specs.{Laws.after_units, Units.Act, Walks.{IfMore, answer}, declared.walk.WalkState.{WalkState, TheVariants.{More, End, Fault}}}
 use Rattle.entry_codec.specs.declared.{status.Status.Status, submission.SubEntry.SubEntry}
 use Rattle.io_commands.specs.Jobs.{job_course, direction_of_entry, verdict_of}
@@ -22,8 +22,8 @@ use Rattle.two_sides.specs.Ties.{IsWorld, ShareQueues, SharesAdmin, AllQueuesSta
 use Rattle.page_ledger.specs.Owners.{is_among}
 use Rattle.page_memory.specs.{Memory.Memory, Pages.{Pages, byte_at, page_at, AreWhole}}
 use Rattle.sgl_descriptor.specs.declared.Direction.{Direction}
-use Rattle.controller_core.specs.declared.refusal.Refusal as controller
-use Rattle.controller_core.specs.declared.refusal.Refusal.TheVariants as because
+use Rattle.controller_core.specs.declared.refusal.ControllerRefusal.{ControllerRefusal}
+use Rattle.controller_core.specs.declared.refusal.ControllerRefusal.TheVariants as because
 use Rattle.controller_walk.specs.Serving as serving
 use Rattle.machine_model.specs.Events as events
 use Rattle.machine_model.specs.declared.words.Refusal.TheVariants as refusal
@@ -46,7 +46,7 @@ refusal_is s q cid world = elim (option_is (find (is_command q cid) s.controller
     same : (verdict admin : Bool) → admin ≡ false → (if verdict || admin then Some refusal.Nothing else None) ≡ option_map why_of (if verdict then Some because.Nothing else None)
     same verdict admin e = grind arith
 
-    by : (work : Work) (blocks q done : ℕ) → FitsWork blocks q done work
+    by : (work : FetchedWork) (blocks q done : ℕ) → FitsWork blocks q done work
         → (if is_some (verdict_of_work work) || (q == 0) then Some refusal.Nothing else None) ≡ option_map why_of (if is_some (verdict_of_work work) then Some because.Nothing else None)
     by (Io job) blocks q done fits = same (is_some job.verdict) (q == 0) fits.0
     by (Admin entry status dw0) blocks q done fits = refl
@@ -54,10 +54,10 @@ refusal_is s q cid world = elim (option_is (find (is_command q cid) s.controller
 pub walk_refused_alike : walks_refuse_alike
 walk_refused_alike s q cid world t = refusal_is s q cid world
 
-may_refuse : (s : Sides) (q cid : ℕ) (why : controller.Refusal) → IsWorld s → walk_refusal s.controller q cid ≡ Some why → Permits (state_of s) (events.Walk q cid) (events.Refused (why_of why) [])
-may_refuse s q cid why world e = subst (λ (o : Option controller.Refusal). IfSome o Allowed) e (causes (find (is_command q cid) s.controller.commands)) (refusal_is s q cid world ∙ ap (option_map why_of) e)
+may_refuse : (s : Sides) (q cid : ℕ) (why : ControllerRefusal) → IsWorld s → walk_refusal s.controller q cid ≡ Some why → Permits (state_of s) (events.Walk q cid) (events.Refused (why_of why) [])
+may_refuse s q cid why world e = subst (λ (o : Option ControllerRefusal). IfSome o Allowed) e (causes (find (is_command q cid) s.controller.commands)) (refusal_is s q cid world ∙ ap (option_map why_of) e)
   where
-    Allowed : controller.Refusal → Type 0
+    Allowed : ControllerRefusal → Type 0
     Allowed why = refusal_of (state_of s) (events.Walk q cid) ≡ Some (why_of why) → Permits (state_of s) (events.Walk q cid) (events.Refused (why_of why) [])
 
     ended : (b : Bool) → IfSome (if b then Some because.Nothing else None) Allowed
@@ -108,7 +108,7 @@ module _ (s : Sides) (q cid : ℕ) (outcome : WalkState) (c : Contents) (pages :
     -- where nothing was forged, that is the next unit of the machine's list
     stands : WalkStands (memory_of s.pages) k.units_done (Io w.among.job)
     stands =
-        subst (λ (work : Work). WalkStands (memory_of s.pages) k.units_done work) w.among.work
+        subst (λ (work : FetchedWork). WalkStands (memory_of s.pages) k.units_done work) w.among.work
         (all-at (λ (k : FetchedCommand). WalkStands (memory_of s.pages) k.units_done k.work) s.controller.commands w.among.place k w.among.at (tied_of s world t).walks)
 
     next : (next_unit (state_of s) j ≡ Some unit.act) × (after_units (k.units_done + 1) (course_of (state_of s) j) ≡ unit.rest)
@@ -176,7 +176,7 @@ module _ (s : Sides) (q cid : ℕ) (outcome : WalkState) (c : Contents) (pages :
     queues_walked = subst (AllQueuesStand s.host.entries (byte_at pages) 0 s.host.host.queues) (sym w.queues) (all_stand_still s pages world t spared)
 
     other : (k.q == 0) ≡ false
-    other = (subst (λ (work : Work). FitsWork (block_count s.controller.image) k.q k.units_done work) w.among.work (is_found s world q cid k w.among.found).fits.1).0
+    other = (subst (λ (work : FetchedWork). FitsWork (block_count s.controller.image) k.q k.units_done work) w.among.work (is_found s world q cid k w.among.found).fits.1).0
 
     job_at_place : slice_get (map job_of s.controller.commands) w.among.place ≡ Some j
     job_at_place = slice_get-map job_of s.controller.commands w.among.place ∙ ap (option_map job_of) w.among.at ∙ ap Some (seen_is k w.among.job w.among.work)

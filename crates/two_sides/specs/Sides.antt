@@ -2,8 +2,8 @@
 -- the memory and from the positions of both sides; nothing is kept twice.
 use Rattle.std.specs.Prelude.{ℕ, Bool, Option, Some, None, List, [], ◌∷◌, map, if◌then◌else◌}
 use Rattle.admin_commands.specs.Verdicts.{is_absent}
-use Rattle.controller_core.specs.Contents.{Contents, FetchedCommand, Work, entry_of_work, verdict_of_work, dw0_of_work}
-use Rattle.controller_core.specs.declared.{command.Work.TheVariants.{Io, Admin}, queue.ControllerQueue.ControllerQueue}
+use Rattle.controller_core.specs.Contents.{Contents, FetchedCommand, FetchedWork, entry_of_work, verdict_of_work, dw0_of_work}
+use Rattle.controller_core.specs.declared.{command.FetchedWork.TheVariants.{Io, Admin}, queue.ControllerQueue.ControllerQueue}
 use Rattle.entry_codec.specs.declared.{completion.ComEntry.ComEntry, submission.SubEntry.SubEntry}
 use Rattle.host_core.specs.Alone.{HostView}
 use Rattle.machine_model.specs.State.{State, Controller, PostedCompletion, HostQueue, ServedQueue}
@@ -52,7 +52,7 @@ served_queues_of m [] cs = []
 served_queues_of m (h ∷ hs) [] = []
 served_queues_of m (h ∷ hs) (c ∷ cs) = served_queue_of m h.ring c ∷ served_queues_of m hs cs
 
-abbrev pub bytes_of_work : Work → List ℕ
+abbrev pub bytes_of_work : FetchedWork → List ℕ
 bytes_of_work (Io job) = job.bytes
 bytes_of_work (Admin entry status dw0) = []
 

@@ -9,7 +9,7 @@ use Rattle.page_memory.specs.{Memory.written, Pages.{Pages, byte_at, AreWhole}}
 use Rattle.queue_pair.specs.Memory.{completion_place, completion_slot}
 use Rattle.two_sides.specs.{Laws.behind, Serving.{Walks, Completes, why_of, fetch_reply, walk_reply, complete_reply}, Sides.{Sides, state_of}}
 use Rattle.two_sides.specs.Ties.{IsWorld, first_completion_page}
-use Rattle.controller_core.specs.declared.refusal.Refusal as controller
+use Rattle.controller_core.specs.declared.refusal.ControllerRefusal.{ControllerRefusal}
 use Rattle.machine_model.specs.Events as events
 use Rattle.machine_model.specs.Step as machine
 
@@ -41,19 +41,19 @@ served s c pages = record s { controller = c; pages = pages }
 
 abbrev pub fetches_step : Type 0
 fetches_step =
-    (s : Sides) (q : ℕ) (result : Result ℕ controller.Refusal) (c : Contents) (pages : Pages) (touched : List ℕ)
+    (s : Sides) (q : ℕ) (result : Result ℕ ControllerRefusal) (c : Contents) (pages : Pages) (touched : List ℕ)
     → IsWorld s → IsController c → LeavesPages s.pages pages → Fetches s.controller (length s.pages) (byte_at s.pages) [] q result c (byte_at pages) touched
     → StepsTo s (events.Fetch q) (fetch_reply result touched) (served s c pages)
 
 abbrev pub walks_step : Type 0
 walks_step =
-    (s : Sides) (q cid : ℕ) (result : Result WalkState controller.Refusal) (c : Contents) (pages : Pages) (touched : List ℕ)
+    (s : Sides) (q cid : ℕ) (result : Result WalkState ControllerRefusal) (c : Contents) (pages : Pages) (touched : List ℕ)
     → IsWorld s → IsController c → LeavesPages s.pages pages → Walks s.controller (byte_at s.pages) [] q cid result c (byte_at pages) touched
     → StepsTo s (events.Walk q cid) (walk_reply result touched) (served s c pages)
 
 abbrev pub completes_step : Type 0
 completes_step =
-    (s : Sides) (q cid : ℕ) (result : Result (Unit {0}) controller.Refusal) (c : Contents) (pages : Pages) (touched : List ℕ)
+    (s : Sides) (q cid : ℕ) (result : Result (Unit {0}) ControllerRefusal) (c : Contents) (pages : Pages) (touched : List ℕ)
     → IsWorld s → IsController c → LeavesPages s.pages pages → Completes s.controller (byte_at s.pages) [] q cid result c (byte_at pages) touched
     → StepsTo s (events.Complete q cid) (complete_reply result touched) (served s c pages)
 

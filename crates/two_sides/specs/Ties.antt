@@ -1,7 +1,7 @@
 -- What holds of a host and a controller over one pool of pages: always, and as long as nothing was forged.
 use Rattle.std.specs.{Bool.OnTrue, List.AllByRecursion, Prelude.{◌≡◌, ◌||◌, Bool, ℕ, suc, true, false, None, List, [], ◌∷◌, IsTrue, slice_index}}
 use Rattle.admin_commands.specs.Verdicts.{is_absent}
-use Rattle.controller_core.specs.{Contents.{FetchedCommand, IsController, Work}, declared.command.Work.TheVariants.{Io, Admin}}
+use Rattle.controller_core.specs.{Contents.{FetchedCommand, IsController, FetchedWork}, declared.command.FetchedWork.TheVariants.{Io, Admin}}
 use Rattle.controller_core.specs.declared.queue.ControllerQueue.{ControllerQueue}
 use Rattle.controller_walk.specs.{Laws.after_units, Units.course_of_list}
 use Rattle.entry_codec.specs.declared.{completion.ComEntry.ComEntry, hints.TheConstants.Hints.NONE}
@@ -96,7 +96,7 @@ AllQueuesStand n m q (h ∷ hs) [] = Unit {0}
 AllQueuesStand n m q (h ∷ hs) (c ∷ cs) = QueueStands n m q h c × AllQueuesStand n m (suc q) hs cs
 
 -- As long as a command has no verdict, its walk has to do what is left of its list after the units that it did, in the memory as it is now.
-abbrev pub WalkStands : Memory → ℕ → Work → Type 0
+abbrev pub WalkStands : Memory → ℕ → FetchedWork → Type 0
 WalkStands m done (Io job) =
     job.verdict ≡ None → job_course m job ≡ after_units done (course_of_list m job.entry.sgl1 (direction_of_entry job.entry) (need_of_entry job.entry))
 WalkStands m done (Admin entry status dw0) = Unit {0}

@@ -29,7 +29,7 @@ mod status;
 mod status_words;
 mod text;
 
-pub use answer::{Answer, Layout, explain_text};
+pub use answer::{Explained, Layout, explain_text};
 pub use case::{Case, CaseReader};
 pub use command::{Explanation, explain};
 pub use fault::{CaseFault, Wrong};

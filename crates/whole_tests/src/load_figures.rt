@@ -4,7 +4,7 @@ ghost use Rattle.std.specs.Prelude.{◌≤◌};
 
 use crate::expecting::same_at;
 use block_image::Image;
-use load::{Figures, Report, Server, run_load};
+use load::{Figures, ProgressReport, Server, run_load};
 use script_cli::workload::{Load, OutputFormat, Pattern};
 use std::alloc::AllocGlobal;
 use std::fmt::Display;
@@ -58,7 +58,7 @@ impl<R: Threads> Threads for Paced<'_, R> {}
 #[derive(Drop)]
 struct Nobody;
 
-impl Report for Nobody {
+impl ProgressReport for Nobody {
     fn take(&mut self, _so_far: &Figures<'_>) {}
 }
 

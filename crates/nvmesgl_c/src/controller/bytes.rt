@@ -8,7 +8,7 @@ use crate::controller::code::NO_JOB;
 use crate::controller::handle::Handle;
 use crate::words::code::{DONE, TOO_SHORT};
 use crate::words::{Answer, lay_in, nothing, or_code};
-use controller_core::{FetchedCommand, Work};
+use controller_core::{FetchedCommand, FetchedWork};
 use std::alloc::Global;
 
 /// The bytes of a command.
@@ -16,8 +16,8 @@ fn bytes_of(command: &FetchedCommand) -> &[u8]
     ensures { result.now ≡ bytes_of_work command.now.work }
 {
     match &command.work {
-        Work::Io(job) => job.bytes(),
-        Work::Admin { .. } => &[],
+        FetchedWork::Io(job) => job.bytes(),
+        FetchedWork::Admin { .. } => &[],
     }
 }
 
@@ -51,11 +51,11 @@ pub extern "C" fn nvmectl_bytes(
     ensures kind { lends_in handle.new ≡ lends_in handle.old }
 {
     *answer = nothing();
-    let device = or_code!(handle.take(alloc));
-    let code = match device.command(q, cid) {
+    let controller = or_code!(handle.take(alloc));
+    let code = match controller.command(q, cid) {
         Some(command) => lay_bytes(bytes_of(command), buffer, answer),
         None => NO_JOB,
     };
-    handle.put(device);
+    handle.put(controller);
     code
 }

@@ -4,8 +4,8 @@ ghost use Rattle.std.specs.Prelude.{◌≡◌, ◌<◌, ◌≤◌, ◌↔◌, fa
 ghost use Rattle.nvmesgl_c.specs.ControllerKept.{kept_in, lends_in, own_in};
 ghost use Rattle.nvmesgl_c.specs.ControllerCalls.{FetchesBy, WalksBy, CompletesBy, Lent, LendsNone};
 
+use crate::controller::any_controller::AnyController;
 use crate::controller::code::POOL_TOO_LONG;
-use crate::controller::device::Device;
 use crate::controller::handle::Handle;
 use crate::controller::over::{complete, fetch, walk};
 use crate::words::{Answer, LentMemory, MOST_BYTES, nothing, or_code};
@@ -28,19 +28,19 @@ pub(crate) fn take_for(
     alloc: Global,
     handle: &mut Handle,
     len: usize,
-) -> Result<Box<Device, Global>, u32>
-    ensures taken { IfOk result (λ device. kept_in handle.old ≡ Ok device.value.contents) }
-    ensures kind { IfOk result (λ device. lends_in handle.old ≡ device.value.lends) }
+) -> Result<Box<AnyController, Global>, u32>
+    ensures taken { IfOk result (λ controller. kept_in handle.old ≡ Ok controller.value.contents) }
+    ensures kind { IfOk result (λ controller. lends_in handle.old ≡ controller.value.lends) }
     ensures fits { OnOk result (len ≤ 268435456) }
     ensures refused { IfErr result (λ code. LendsNone (kept_in handle.old) len code (kept_in handle.new)) }
     ensures as_it_was { OnErr result (lends_in handle.new ≡ lends_in handle.old) }
 {
-    let device = handle.take(alloc)?;
+    let controller = handle.take(alloc)?;
     if is_too_long(len) {
-        handle.put(device);
+        handle.put(controller);
         return Err(POOL_TOO_LONG);
     }
-    Ok(device)
+    Ok(controller)
 }
 
 /// The controller that is kept and holds an image, taken out for a call that is lent this many bytes.
@@ -48,18 +48,22 @@ pub(crate) fn take_for(
 /// # Errors
 ///
 /// The code, where none is kept or the bytes are too many. Then nothing is taken out.
-fn take_own_for(alloc: Global, handle: &mut Handle, len: usize) -> Result<Box<Device, Global>, u32>
-    ensures taken { IfOk result (λ device. own_in handle.old ≡ Ok device.value.contents) }
-    ensures kind { IfOk result (λ device. device.value.lends ≡ false) }
+fn take_own_for(
+    alloc: Global,
+    handle: &mut Handle,
+    len: usize,
+) -> Result<Box<AnyController, Global>, u32>
+    ensures taken { IfOk result (λ controller. own_in handle.old ≡ Ok controller.value.contents) }
+    ensures kind { IfOk result (λ controller. controller.value.lends ≡ false) }
     ensures fits { OnOk result (len ≤ 268435456) }
     ensures refused { IfErr result (λ code. LendsNone (own_in handle.old) len code (own_in handle.new)) }
 {
-    let device = handle.take_own(alloc)?;
+    let controller = handle.take_own(alloc)?;
     if is_too_long(len) {
-        handle.put(device);
+        handle.put(controller);
         return Err(POOL_TOO_LONG);
     }
-    Ok(device)
+    Ok(controller)
 }
 
 /// The controller fetches an entry. Its identifier is told.
@@ -74,13 +78,13 @@ pub extern "C" fn nvmectl_fetch(
     ensures { Lent (FetchesBy q) (own_in handle.old) pool.old result answer.new (own_in handle.new) pool.new }
 {
     *answer = nothing();
-    let mut device = or_code!(take_own_for(alloc, handle, pool.len()));
+    let mut controller = or_code!(take_own_for(alloc, handle, pool.len()));
     let mut memory = LentMemory {
         bytes: pool,
         touched: ArrayVec::new(),
     };
-    let code = fetch(&mut device, q, &mut memory, answer);
-    handle.put(device);
+    let code = fetch(&mut controller, q, &mut memory, answer);
+    handle.put(controller);
     code
 }
 
@@ -98,13 +102,13 @@ pub extern "C" fn nvmectl_walk(
     ensures kind { lends_in handle.new ≡ lends_in handle.old }
 {
     *answer = nothing();
-    let mut device = or_code!(take_for(alloc, handle, pool.len()));
+    let mut controller = or_code!(take_for(alloc, handle, pool.len()));
     let mut memory = LentMemory {
         bytes: pool,
         touched: ArrayVec::new(),
     };
-    let code = walk(&mut device, q, cid, &mut memory, answer);
-    handle.put(device);
+    let code = walk(&mut controller, q, cid, &mut memory, answer);
+    handle.put(controller);
     code
 }
 
@@ -121,12 +125,12 @@ pub extern "C" fn nvmectl_complete(
     ensures { Lent (CompletesBy q cid) (own_in handle.old) pool.old result answer.new (own_in handle.new) pool.new }
 {
     *answer = nothing();
-    let mut device = or_code!(take_own_for(alloc, handle, pool.len()));
+    let mut controller = or_code!(take_own_for(alloc, handle, pool.len()));
     let mut memory = LentMemory {
         bytes: pool,
         touched: ArrayVec::new(),
     };
-    let code = complete(&mut device, q, cid, &mut memory, answer);
-    handle.put(device);
+    let code = complete(&mut controller, q, cid, &mut memory, answer);
+    handle.put(controller);
     code
 }

@@ -3,7 +3,7 @@
 ghost use Rattle.std.specs.Prelude.{◌≡◌};
 ghost use Rattle.nvmesgl_c.specs.ControllerCodes as codes;
 
-use controller_core::Refusal;
+use controller_core::ControllerRefusal;
 
 /// No queue of this number takes the call.
 pub(crate) const NO_QUEUE: u32 = 10;
@@ -22,17 +22,17 @@ pub(crate) const NOT_LENT: u32 = 58;
 pub(crate) const OTHER_CALL: u32 = 59;
 
 /// The code of a refusal.
-pub(crate) fn code_of_refusal(why: Refusal) -> u32
+pub(crate) fn code_of_refusal(why: ControllerRefusal) -> u32
     ensures { result ≡ codes.code_of_refusal why }
 {
     match why {
-        Refusal::Memory => 15,
-        Refusal::Idle => 28,
-        Refusal::SlotOut => 29,
-        Refusal::Full => 30,
-        Refusal::NoJob => 31,
-        Refusal::Nothing => 32,
-        Refusal::Walking => 33,
-        Refusal::Waits => 34,
+        ControllerRefusal::Memory => 15,
+        ControllerRefusal::Idle => 28,
+        ControllerRefusal::SlotOut => 29,
+        ControllerRefusal::Full => 30,
+        ControllerRefusal::NoJob => 31,
+        ControllerRefusal::Nothing => 32,
+        ControllerRefusal::Walking => 33,
+        ControllerRefusal::Waits => 34,
     }
 }

@@ -45,12 +45,12 @@ pub extern "C" fn nvmectl_tail(alloc: Global, handle: &mut Handle, q: u16, value
     ensures rings { RingsTail (kept_in handle.old) q value result (kept_in handle.new) }
     ensures kind { lends_in handle.new ≡ lends_in handle.old }
 {
-    let mut device = or_code!(handle.take(alloc));
-    let code = code_of_tail(device.queues(), q, value);
+    let mut controller = or_code!(handle.take(alloc));
+    let code = code_of_tail(controller.queues(), q, value);
     if code == DONE {
-        device.tail_doorbell(q, value);
+        controller.tail_doorbell(q, value);
     }
-    handle.put(device);
+    handle.put(controller);
     code
 }
 
@@ -60,11 +60,11 @@ pub extern "C" fn nvmectl_head(alloc: Global, handle: &mut Handle, q: u16, value
     ensures rings { RingsHead (kept_in handle.old) q value result (kept_in handle.new) }
     ensures kind { lends_in handle.new ≡ lends_in handle.old }
 {
-    let mut device = or_code!(handle.take(alloc));
-    let code = code_of_head(device.queues(), q, value);
+    let mut controller = or_code!(handle.take(alloc));
+    let code = code_of_head(controller.queues(), q, value);
     if code == DONE {
-        device.head_doorbell(q, value);
+        controller.head_doorbell(q, value);
     }
-    handle.put(device);
+    handle.put(controller);
     code
 }

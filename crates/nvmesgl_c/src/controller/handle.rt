@@ -1,11 +1,11 @@
 //! A controller that C keeps between its calls.
 
 ghost use Rattle.std.specs.Prelude.{◌≡◌, Option, Ok, Err, IfOk, IfErr, OnOk, is_some, true, false};
-ghost use Rattle.nvmesgl_c.specs.ControllerDevices.{DeviceContents};
-ghost use Rattle.nvmesgl_c.specs.ControllerOwned.{code_by_mark, device_coded, kept_owns, IsMarkedDevice};
+ghost use Rattle.nvmesgl_c.specs.AnyControllers.{AnyContents};
+ghost use Rattle.nvmesgl_c.specs.ControllerOwned.{code_by_mark, any_coded, kept_owns, IsMarkedKind};
 
+use crate::controller::any_controller::AnyController;
 use crate::controller::code::OTHER_CALL;
-use crate::controller::device::Device;
 use crate::held::Held;
 use crate::words::code::{OPEN, cause_of_mark, code_of_mark};
 use std::alloc::Global;
@@ -18,11 +18,11 @@ use std::mem::replace;
 pub struct Kept {
     at: *mut u8,
     alloc: Global,
-    pub ghost device: { Option DeviceContents } by { device_coded },
+    pub ghost controller: { Option AnyContents } by { any_coded },
 }
 
 impl Model for Kept {
-    ghost also_owns = { λ h. kept_owns h.alloc h.at h.device };
+    ghost also_owns = { λ h. kept_owns h.alloc h.at h.controller };
 }
 
 // What frees the controller names no thread: a handle may go from thread to thread, where one call at a time is made on it.
@@ -30,8 +30,8 @@ unsafe impl Send for Kept {}
 
 impl Kept {
     /// What is held.
-    pub fn of_held(held: Held<Device, Global>) -> Kept
-        ensures { result.device ≡ held.value }
+    pub fn of_held(held: Held<AnyController, Global>) -> Kept
+        ensures { result.controller ≡ held.value }
     {
         let Held { at, alloc } = held;
         Kept {
@@ -41,12 +41,12 @@ impl Kept {
     }
 
     /// What is held.
-    pub fn into_held(self) -> Held<Device, Global>
-        ensures { result.value ≡ self.device }
+    pub fn into_held(self) -> Held<AnyController, Global>
+        ensures { result.value ≡ self.controller }
     {
         let Kept { at, alloc } = self;
         Held {
-            at: at as *mut Device,
+            at: at as *mut AnyController,
             alloc,
         }
     }
@@ -65,7 +65,7 @@ pub struct Handle {
     kept: Kept,
     /// [`OWN_MARK`] or [`LENT_MARK`] where there is one, and 0 in a handle that is closed. A handle with another mark is not of this kind.
     mark: u32,
-    pub ghost marked: { IsMarkedDevice mark kept.device },
+    pub ghost marked: { IsMarkedKind mark kept.controller },
 }
 
 /// What a call is refused with that takes no handle of this mark.
@@ -82,9 +82,9 @@ impl Handle {
     ghost use Rattle.nvmesgl_c.specs.ControllerKept.{IsClosed, cause_in, code_in, kept_in, lends_in, lent_in, own_in};
 
     /// Takes the controller out that is kept.
-    fn take_out(&mut self, alloc: Global) -> Box<Device, Global>
-        requires { is_some self.old.kept.device ≡ true }
-        ensures taken { self.old.kept.device ≡ Some result.value }
+    fn take_out(&mut self, alloc: Global) -> Box<AnyController, Global>
+        requires { is_some self.old.kept.controller ≡ true }
+        ensures taken { self.old.kept.controller ≡ Some result.value }
         ensures left { kept_in self.new ≡ Err self.new }
         ensures closed { IsClosed self.new }
     {
@@ -98,7 +98,7 @@ impl Handle {
     /// # Errors
     ///
     /// The code, where none is kept: the handle is closed, or not of this kind.
-    pub fn take(&mut self, alloc: Global) -> Result<Box<Device, Global>, u32>
+    pub fn take(&mut self, alloc: Global) -> Result<Box<AnyController, Global>, u32>
         ensures taken { IfOk result (λ taken. kept_in self.old ≡ Ok taken.value.contents) }
         ensures kind { IfOk result (λ taken. lends_in self.old ≡ taken.value.lends) }
         ensures left { OnOk result (kept_in self.new ≡ Err self.new) }
@@ -118,7 +118,7 @@ impl Handle {
     /// # Errors
     ///
     /// The code, where none is kept: as [`Handle::take`], or the blocks of the one that is kept are lent.
-    pub fn take_own(&mut self, alloc: Global) -> Result<Box<Device, Global>, u32>
+    pub fn take_own(&mut self, alloc: Global) -> Result<Box<AnyController, Global>, u32>
         ensures taken { IfOk result (λ taken. own_in self.old ≡ Ok taken.value.contents) }
         ensures kind { IfOk result (λ taken. taken.value.lends ≡ false) }
         ensures none { IfErr result (λ code. own_in self.old ≡ Err self.old) }
@@ -136,7 +136,7 @@ impl Handle {
     /// # Errors
     ///
     /// The code, where none is kept: as [`Handle::take`], or the one that is kept holds an image.
-    pub fn take_lent(&mut self, alloc: Global) -> Result<Box<Device, Global>, u32>
+    pub fn take_lent(&mut self, alloc: Global) -> Result<Box<AnyController, Global>, u32>
         ensures taken { IfOk result (λ taken. lent_in self.old ≡ Ok taken.value.contents) }
         ensures kind { IfOk result (λ taken. taken.value.lends ≡ true) }
         ensures none { IfErr result (λ code. lent_in self.old ≡ Err self.old) }
@@ -150,15 +150,19 @@ impl Handle {
     }
 
     /// Keeps a controller, in the place of what was there.
-    pub fn put(&mut self, device: Box<Device, Global>)
-        ensures kept { kept_in self.new ≡ Ok device.value.contents }
-        ensures kind { lends_in self.new ≡ device.value.lends }
-        ensures own { device.value.lends ≡ false → own_in self.new ≡ Ok device.value.contents }
-        ensures lent { device.value.lends ≡ true → lent_in self.new ≡ Ok device.value.contents }
+    pub fn put(&mut self, controller: Box<AnyController, Global>)
+        ensures kept { kept_in self.new ≡ Ok controller.value.contents }
+        ensures kind { lends_in self.new ≡ controller.value.lends }
+        ensures own { controller.value.lends ≡ false → own_in self.new ≡ Ok controller.value.contents }
+        ensures lent { controller.value.lends ≡ true → lent_in self.new ≡ Ok controller.value.contents }
     {
-        let mark = if device.lends() { LENT_MARK } else { OWN_MARK };
+        let mark = if controller.lends() {
+            LENT_MARK
+        } else {
+            OWN_MARK
+        };
         *self = Handle {
-            kept: Kept::of_held(Held::of(device)),
+            kept: Kept::of_held(Held::of(controller)),
             mark,
         };
     }

@@ -6,7 +6,7 @@ ghost use Rattle.nvmesgl_c.specs.ControllerLent.{CompletesBlocks, FetchesBlocks,
 ghost use Rattle.nvmesgl_c.specs.ControllerOver.{LentOver};
 ghost use Rattle.nvmesgl_c.specs.Regions.{hidden_in, table_of};
 
-use crate::controller::device::Device;
+use crate::controller::any_controller::AnyController;
 use crate::controller::handle::Handle;
 use crate::controller::lent_over::{CWanted, complete, fetch};
 use crate::controller::options::{CQueue, Options, entries_of, pages_of};
@@ -23,9 +23,9 @@ fn open_controller(
     alloc: Global,
     given: &Options,
     queues: &[CQueue],
-) -> Result<Box<Device, Global>, NotOpened>
-    ensures opened { IfOk result (λ device. IsOpenedLent given.now queues.now device.value.contents) }
-    ensures kind { IfOk result (λ device. device.value.lends ≡ true) }
+) -> Result<Box<AnyController, Global>, NotOpened>
+    ensures opened { IfOk result (λ controller. IsOpenedLent given.now queues.now controller.value.contents) }
+    ensures kind { IfOk result (λ controller. controller.value.lends ≡ true) }
     ensures not_opened { IfErr result (λ why. IsWhyLent given.now (length queues.now) why) }
 {
     let entries = entries_of(given, queues)?;
@@ -37,16 +37,16 @@ fn open_controller(
         return Err(NotOpened::Memory);
     };
     match Controller::open_over(alloc, entries, &pages, blocks) {
-        Ok(controller) => match Box::new(alloc, Device::lending(controller)) {
-            Ok(device) => Ok(device),
+        Ok(controller) => match Box::new(alloc, AnyController::lending(controller)) {
+            Ok(controller) => Ok(controller),
             Err(_) => Err(NotOpened::Memory),
         },
         Err(_) => Err(NotOpened::Memory),
     }
 }
 
-/// Opens a handle that is closed, with queues that begin at these pages, over a namespace of so many blocks, which are lent to each call that
-/// reads or writes them.
+/// Opens a handle that is closed, with queues that begin at these pages, over a namespace of as many blocks as the options say, which are lent to
+/// each call that reads or writes them.
 #[unsafe(no_mangle)]
 pub extern "C" fn nvmectl_open_lent(
     alloc: Global,
@@ -61,8 +61,8 @@ pub extern "C" fn nvmectl_open_lent(
         return code;
     }
     match open_controller(alloc, given, queues) {
-        Ok(device) => {
-            handle.put(device);
+        Ok(controller) => {
+            handle.put(controller);
             DONE
         }
         Err(why) => code_of_not_opened(why),
@@ -87,20 +87,27 @@ pub extern "C" fn nvmectl_fetch_lent(
     ensures hidden { hidden_in regions.new ≡ hidden_in regions.old }
 {
     *answer = nothing();
-    let mut device = or_code!(handle.take_lent(alloc));
+    let mut controller = or_code!(handle.take_lent(alloc));
     let pages = pages_in(regions);
     let mut memory = LentRegions {
         regions,
         pages,
         touched: ArrayVec::new(),
     };
-    let code = fetch(&mut device, q, &mut memory, slba, blocks, wanted, answer);
-    handle.put(device);
+    let code = fetch(
+        &mut controller,
+        q,
+        &mut memory,
+        slba,
+        blocks,
+        wanted,
+        answer,
+    );
+    handle.put(controller);
     code
 }
 
-/// The controller completes a command, over blocks that are lent, from `slba` on. What a Write writes stands in them then. Which blocks are wanted is
-/// told.
+/// The controller completes a command, over blocks that are lent, from `slba` on. A Write's bytes are in them afterwards. Which blocks are wanted is told.
 #[unsafe(no_mangle)]
 pub extern "C" fn nvmectl_complete_lent(
     alloc: Global,
@@ -119,7 +126,7 @@ pub extern "C" fn nvmectl_complete_lent(
     ensures hidden { hidden_in regions.new ≡ hidden_in regions.old }
 {
     *answer = nothing();
-    let mut device = or_code!(handle.take_lent(alloc));
+    let mut controller = or_code!(handle.take_lent(alloc));
     let pages = pages_in(regions);
     let mut memory = LentRegions {
         regions,
@@ -127,7 +134,7 @@ pub extern "C" fn nvmectl_complete_lent(
         touched: ArrayVec::new(),
     };
     let code = complete(
-        &mut device,
+        &mut controller,
         q,
         cid,
         &mut memory,
@@ -136,6 +143,6 @@ pub extern "C" fn nvmectl_complete_lent(
         wanted,
         answer,
     );
-    handle.put(device);
+    handle.put(controller);
     code
 }

@@ -1,14 +1,14 @@
 //! The controller's calls over regions of memory and over blocks, both lent.
 
-ghost use Rattle.std.specs.Prelude.{◌≡◌, ◌↔◌, IsTrue, [], Some, true, length};
+ghost use Rattle.std.specs.Prelude.{◌≡◌, ◌↔◌, IsTrue, [], Some, true};
 ghost use Rattle.block_image.specs.Blocks.{IsPart, block_count};
 ghost use Rattle.nvmesgl_c.specs.Answers.{nothing};
 ghost use Rattle.nvmesgl_c.specs.ControllerLent as lents;
 ghost use Rattle.nvmesgl_c.specs.ControllerLent.{CompletesBlocks, CompletesLentBy, FetchesBlocks, FetchesLentBy, code_of_lent, opcode_in, wanted_by};
 ghost use Rattle.nvmesgl_c.specs.Regions.{hidden_in, memory_of, table_of};
 
+use crate::controller::any_controller::AnyController;
 use crate::controller::code::{NO_BLOCKS, NOT_LENT, code_of_refusal};
-use crate::controller::device::Device;
 use crate::words::code::DONE;
 use crate::words::{Answer, LentRegions, touching};
 use block_image::{BLOCK_SIZE, Lent};
@@ -56,16 +56,16 @@ fn refuse(why: LentRefusal, opcode: u8, wanted: &mut CWanted) -> u32
 }
 
 /// The opcode of a command, or 0 where there is no such command.
-fn opcode_of(device: &Device, q: u16, cid: u16) -> u8
-    ensures { result ≡ opcode_in device.now.contents q cid }
+fn opcode_of(controller: &AnyController, q: u16, cid: u16) -> u8
+    ensures { result ≡ opcode_in controller.now.contents q cid }
 {
-    match device.command(q, cid) {
+    match controller.command(q, cid) {
         Some(command) => command.work.entry().opcode,
         None => 0,
     }
 }
 
-/// Whether the bytes are whole blocks, which a namespace of so many blocks has from `first` on.
+/// Whether the bytes are whole blocks, which a namespace of this many blocks has from `first` on.
 fn can_lend(blocks: u32, first: u64, bytes: &[u8]) -> bool
     ensures { IsTrue result ↔ IsPart blocks first bytes.now }
 {
@@ -94,7 +94,7 @@ fn lend<'a>(blocks: u32, first: u64, bytes: &'a mut [u8]) -> Lent<'a>
 /// Fetches over a memory and blocks that are lent, and tells what was fetched, or which blocks are wanted. The borrow of the regions, the table
 /// and what no address shows are the same afterwards.
 fn fetch_over(
-    device: &mut Device,
+    controller: &mut AnyController,
     q: u16,
     memory: &mut LentRegions<'_, '_>,
     lent: &Lent,
@@ -102,15 +102,15 @@ fn fetch_over(
     answer: &mut Answer,
 ) -> u32
     requires fresh { memory.old.touched.items ≡ [] }
-    requires lends { device.old.lends ≡ true }
-    requires as_many { lent.now.blocks ≡ block_count device.old.contents.image }
-    ensures kind { device.new.lends ≡ true }
+    requires lends { controller.old.lends ≡ true }
+    requires as_many { lent.now.blocks ≡ block_count controller.old.contents.image }
+    ensures kind { controller.new.lends ≡ true }
     ensures same { memory.new.regions.ghost_name ≡ memory.old.regions.ghost_name }
     ensures table { table_of memory.new.regions.now ≡ table_of memory.old.regions.now }
     ensures hidden { hidden_in memory.new.regions.now ≡ hidden_in memory.old.regions.now }
-    ensures fetches { FetchesLentBy q lent.now.first lent.now.bytes.now wanted.old wanted.new device.old.contents memory.old.pages (memory_of memory.old.regions.now) result answer.new device.new.contents (memory_of memory.new.regions.now) }
+    ensures fetches { FetchesLentBy q lent.now.first lent.now.bytes.now wanted.old wanted.new controller.old.contents memory.old.pages (memory_of memory.old.regions.now) result answer.new controller.new.contents (memory_of memory.new.regions.now) }
 {
-    let fetched = device.fetch_over(q, memory, lent);
+    let fetched = controller.fetch_over(q, memory, lent);
     *answer = touching(memory.touched.as_slice());
     match fetched {
         Ok(cid) => {
@@ -124,7 +124,7 @@ fn fetch_over(
 /// Completes a command over a memory and blocks that are lent, and tells which blocks are wanted. The borrows of the regions and of the blocks, the
 /// table and what no address shows are the same afterwards.
 fn complete_over(
-    device: &mut Device,
+    controller: &mut AnyController,
     q: u16,
     cid: u16,
     memory: &mut LentRegions<'_, '_>,
@@ -133,17 +133,17 @@ fn complete_over(
     answer: &mut Answer,
 ) -> u32
     requires fresh { memory.old.touched.items ≡ [] }
-    requires lends { device.old.lends ≡ true }
-    requires as_many { lent.old.blocks ≡ block_count device.old.contents.image }
-    ensures kind { device.new.lends ≡ true }
+    requires lends { controller.old.lends ≡ true }
+    requires as_many { lent.old.blocks ≡ block_count controller.old.contents.image }
+    ensures kind { controller.new.lends ≡ true }
     ensures same { memory.new.regions.ghost_name ≡ memory.old.regions.ghost_name }
     ensures table { table_of memory.new.regions.now ≡ table_of memory.old.regions.now }
     ensures hidden { hidden_in memory.new.regions.now ≡ hidden_in memory.old.regions.now }
     ensures lies { lent.new.bytes.ghost_name ≡ lent.old.bytes.ghost_name }
-    ensures completes { CompletesLentBy q cid lent.old.first lent.old.bytes.now lent.new.bytes.now wanted.old wanted.new device.old.contents memory.old.pages (memory_of memory.old.regions.now) result answer.new device.new.contents (memory_of memory.new.regions.now) }
+    ensures completes { CompletesLentBy q cid lent.old.first lent.old.bytes.now lent.new.bytes.now wanted.old wanted.new controller.old.contents memory.old.pages (memory_of memory.old.regions.now) result answer.new controller.new.contents (memory_of memory.new.regions.now) }
 {
-    let opcode = opcode_of(device, q, cid);
-    let completed = device.complete_over(q, cid, memory, lent);
+    let opcode = opcode_of(controller, q, cid);
+    let completed = controller.complete_over(q, cid, memory, lent);
     *answer = touching(memory.touched.as_slice());
     match completed {
         Ok(()) => DONE,
@@ -154,7 +154,7 @@ fn complete_over(
 /// Fetches over a memory that is lent, and over the blocks of a buffer, from `first` on. The borrow of the regions, the table and what no address
 /// shows are the same afterwards.
 pub(crate) fn fetch(
-    device: &mut Device,
+    controller: &mut AnyController,
     q: u16,
     memory: &mut LentRegions<'_, '_>,
     first: u64,
@@ -163,26 +163,26 @@ pub(crate) fn fetch(
     answer: &mut Answer,
 ) -> u32
     requires fresh { memory.old.touched.items ≡ [] }
-    requires lends { device.old.lends ≡ true }
+    requires lends { controller.old.lends ≡ true }
     requires told { answer.old ≡ nothing }
-    ensures kind { device.new.lends ≡ true }
+    ensures kind { controller.new.lends ≡ true }
     ensures same { memory.new.regions.ghost_name ≡ memory.old.regions.ghost_name }
     ensures table { table_of memory.new.regions.now ≡ table_of memory.old.regions.now }
     ensures hidden { hidden_in memory.new.regions.now ≡ hidden_in memory.old.regions.now }
-    ensures fetches { FetchesBlocks q first blocks.old blocks.new wanted.old wanted.new device.old.contents memory.old.pages (memory_of memory.old.regions.now) result answer.new device.new.contents (memory_of memory.new.regions.now) }
+    ensures fetches { FetchesBlocks q first blocks.old blocks.new wanted.old wanted.new controller.old.contents memory.old.pages (memory_of memory.old.regions.now) result answer.new controller.new.contents (memory_of memory.new.regions.now) }
 {
-    let count = device.blocks();
+    let count = controller.blocks();
     if !can_lend(count, first, blocks) {
         return NO_BLOCKS;
     }
     let lent = lend(count, first, blocks);
-    fetch_over(device, q, memory, &lent, wanted, answer)
+    fetch_over(controller, q, memory, &lent, wanted, answer)
 }
 
 /// Completes a command over a memory that is lent, and over the blocks of a buffer, from `first` on. The borrow of the regions, the table and what
 /// no address shows are the same afterwards.
 pub(crate) fn complete(
-    device: &mut Device,
+    controller: &mut AnyController,
     q: u16,
     cid: u16,
     memory: &mut LentRegions<'_, '_>,
@@ -192,18 +192,18 @@ pub(crate) fn complete(
     answer: &mut Answer,
 ) -> u32
     requires fresh { memory.old.touched.items ≡ [] }
-    requires lends { device.old.lends ≡ true }
+    requires lends { controller.old.lends ≡ true }
     requires told { answer.old ≡ nothing }
-    ensures kind { device.new.lends ≡ true }
+    ensures kind { controller.new.lends ≡ true }
     ensures same { memory.new.regions.ghost_name ≡ memory.old.regions.ghost_name }
     ensures table { table_of memory.new.regions.now ≡ table_of memory.old.regions.now }
     ensures hidden { hidden_in memory.new.regions.now ≡ hidden_in memory.old.regions.now }
-    ensures completes { CompletesBlocks q cid first blocks.old blocks.new wanted.old wanted.new device.old.contents memory.old.pages (memory_of memory.old.regions.now) result answer.new device.new.contents (memory_of memory.new.regions.now) }
+    ensures completes { CompletesBlocks q cid first blocks.old blocks.new wanted.old wanted.new controller.old.contents memory.old.pages (memory_of memory.old.regions.now) result answer.new controller.new.contents (memory_of memory.new.regions.now) }
 {
-    let count = device.blocks();
+    let count = controller.blocks();
     if !can_lend(count, first, blocks) {
         return NO_BLOCKS;
     }
     let mut lent = lend(count, first, blocks);
-    complete_over(device, q, cid, memory, &mut lent, wanted, answer)
+    complete_over(controller, q, cid, memory, &mut lent, wanted, answer)
 }

@@ -74,15 +74,15 @@ pub extern "C" fn nvmectl_command(
     ensures tells { TellsCommand (kept_in handle.old) q cid result command.old command.new (kept_in handle.new) }
     ensures kind { lends_in handle.new ≡ lends_in handle.old }
 {
-    let device = or_code!(handle.take(alloc));
-    let code = match device.command(q, cid) {
+    let controller = or_code!(handle.take(alloc));
+    let code = match controller.command(q, cid) {
         Some(found) => {
             *command = command_of(found);
             DONE
         }
         None => NO_JOB,
     };
-    handle.put(device);
+    handle.put(controller);
     code
 }
 
@@ -96,8 +96,8 @@ pub extern "C" fn nvmectl_blocks(
 ) -> u32
     ensures { TellsBlocks (own_in handle.old) slba result buffer.old buffer.new (own_in handle.new) }
 {
-    let device = or_code!(handle.take_own(alloc));
-    let code = copy_blocks(device.image(), slba, buffer);
-    handle.put(device);
+    let controller = or_code!(handle.take_own(alloc));
+    let code = copy_blocks(controller.image(), slba, buffer);
+    handle.put(controller);
     code
 }

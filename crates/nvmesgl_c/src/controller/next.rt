@@ -5,8 +5,8 @@ ghost use Rattle.nvmesgl_c.specs.ControllerKept.{kept_in, lends_in};
 ghost use Rattle.nvmesgl_c.specs.ControllerNext as next;
 ghost use Rattle.nvmesgl_c.specs.ControllerNext.{Sees, TellsNext};
 
+use crate::controller::any_controller::AnyController;
 use crate::controller::calls::take_for;
-use crate::controller::device::Device;
 use crate::controller::handle::Handle;
 use crate::words::code::DONE;
 use crate::words::{LentMemory, Recorded, or_code};
@@ -48,7 +48,7 @@ pub(crate) fn step_of(step: Option<ControllerStep>) -> CStep
 
 /// Looks for a step over a memory that is lent and recorded: both borrows are the same ones afterwards.
 fn look_over(
-    controller: &Device,
+    controller: &AnyController,
     memory: &mut Recorded<'_, LentMemory<'_>>,
 ) -> Option<ControllerStep>
     ensures lent { memory.new.lent.ghost_name ≡ memory.old.lent.ghost_name }
@@ -60,7 +60,7 @@ fn look_over(
 }
 
 /// Looks for a step over a memory that is lent: the borrow is the same one afterwards.
-fn look(controller: &Device, memory: &mut LentMemory<'_>) -> Option<ControllerStep>
+fn look(controller: &AnyController, memory: &mut LentMemory<'_>) -> Option<ControllerStep>
     ensures same { memory.new.bytes.ghost_name ≡ memory.old.bytes.ghost_name }
     ensures kept { slice_get memory.new.bytes.now ≡ slice_get memory.old.bytes.now }
     ensures sees { Sees controller.now.contents (slice_get memory.old.bytes.now) result }
@@ -83,12 +83,12 @@ pub extern "C" fn nvmectl_next(
     ensures tells { TellsNext (kept_in handle.old) pool.old result step.old step.new (kept_in handle.new) pool.new }
     ensures kind { lends_in handle.new ≡ lends_in handle.old }
 {
-    let device = or_code!(take_for(alloc, handle, pool.len()));
+    let controller = or_code!(take_for(alloc, handle, pool.len()));
     let mut memory = LentMemory {
         bytes: pool,
         touched: ArrayVec::new(),
     };
-    *step = step_of(look(&device, &mut memory));
-    handle.put(device);
+    *step = step_of(look(&controller, &mut memory));
+    handle.put(controller);
     DONE
 }

@@ -5,7 +5,7 @@ ghost use Rattle.nvmesgl_c.specs.ControllerKept.{Closes, kept_in, lends_in};
 ghost use Rattle.nvmesgl_c.specs.ControllerCalls.{Resets};
 ghost use Rattle.nvmesgl_c.specs.ControllerOptions.{Opens, IsOpened, IsWhy};
 
-use crate::controller::device::Device;
+use crate::controller::any_controller::AnyController;
 use crate::controller::handle::Handle;
 use crate::controller::options::{CQueue, Options, entries_of, pages_of};
 use crate::words::code::DONE;
@@ -20,9 +20,9 @@ fn open_controller(
     given: &Options,
     queues: &[CQueue],
     bytes: &[u8],
-) -> Result<Box<Device, Global>, NotOpened>
-    ensures opened { IfOk result (λ device. IsOpened given.now queues.now bytes.now device.value.contents) }
-    ensures kind { IfOk result (λ device. device.value.lends ≡ false) }
+) -> Result<Box<AnyController, Global>, NotOpened>
+    ensures opened { IfOk result (λ controller. IsOpened given.now queues.now bytes.now controller.value.contents) }
+    ensures kind { IfOk result (λ controller. controller.value.lends ≡ false) }
     ensures not_opened { IfErr result (λ why. IsWhy given.now (length queues.now) bytes.now why) }
 {
     let entries = entries_of(given, queues)?;
@@ -35,8 +35,8 @@ fn open_controller(
         return Err(NotOpened::Memory);
     };
     match Controller::open(alloc, entries, &pages, image) {
-        Ok(controller) => match Box::new(alloc, Device::holding(controller)) {
-            Ok(device) => Ok(device),
+        Ok(controller) => match Box::new(alloc, AnyController::holding(controller)) {
+            Ok(controller) => Ok(controller),
             Err(_) => Err(NotOpened::Memory),
         },
         Err(_) => Err(NotOpened::Memory),
@@ -59,8 +59,8 @@ pub extern "C" fn nvmectl_open(
         return code;
     }
     match open_controller(alloc, given, queues, image) {
-        Ok(device) => {
-            handle.put(device);
+        Ok(controller) => {
+            handle.put(controller);
             DONE
         }
         Err(why) => code_of_not_opened(why),
@@ -72,8 +72,8 @@ pub extern "C" fn nvmectl_open(
 pub extern "C" fn nvmectl_close(alloc: Global, handle: &mut Handle)
     ensures { Closes (kept_in handle.old) (kept_in handle.new) }
 {
-    if let Ok(device) = handle.take(alloc) {
-        drop(device);
+    if let Ok(controller) = handle.take(alloc) {
+        drop(controller);
     }
 }
 
@@ -83,8 +83,8 @@ pub extern "C" fn nvmectl_reset(alloc: Global, handle: &mut Handle) -> u32
     ensures resets { Resets (kept_in handle.old) result (kept_in handle.new) }
     ensures kind { lends_in handle.new ≡ lends_in handle.old }
 {
-    let mut device = or_code!(handle.take(alloc));
-    device.reset();
-    handle.put(device);
+    let mut controller = or_code!(handle.take(alloc));
+    controller.reset();
+    handle.put(controller);
     DONE
 }

@@ -3,14 +3,14 @@
 ghost use Rattle.std.specs.Prelude.{◌≡◌, false, ◌/◌, [], length, slice_get};
 ghost use Rattle.nvmesgl_c.specs.ControllerCalls.{FetchesBy, WalksBy, CompletesBy};
 
+use crate::controller::any_controller::AnyController;
 use crate::controller::code::code_of_refusal;
-use crate::controller::device::Device;
 use crate::words::code::DONE;
 use crate::words::{Answer, LentMemory, touching, walked};
 
 /// Fetches over a memory that is lent, and tells what was fetched. The borrow is the same one afterwards.
 pub(crate) fn fetch(
-    controller: &mut Device,
+    controller: &mut AnyController,
     q: u16,
     memory: &mut LentMemory,
     answer: &mut Answer,
@@ -34,7 +34,7 @@ pub(crate) fn fetch(
 
 /// Does a unit of a command's list over a memory that is lent, and tells how the list stands. The borrow is the same one afterwards.
 pub(crate) fn walk(
-    controller: &mut Device,
+    controller: &mut AnyController,
     q: u16,
     cid: u16,
     memory: &mut LentMemory,
@@ -59,7 +59,7 @@ pub(crate) fn walk(
 
 /// Completes a command over a memory that is lent. The borrow is the same one afterwards.
 pub(crate) fn complete(
-    controller: &mut Device,
+    controller: &mut AnyController,
     q: u16,
     cid: u16,
     memory: &mut LentMemory,

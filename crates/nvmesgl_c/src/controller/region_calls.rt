@@ -28,15 +28,15 @@ pub extern "C" fn nvmectl_fetch_over(
     ensures hidden { hidden_in regions.new ≡ hidden_in regions.old }
 {
     *answer = nothing();
-    let mut device = or_code!(handle.take_own(alloc));
+    let mut controller = or_code!(handle.take_own(alloc));
     let pages = pages_in(regions);
     let mut memory = LentRegions {
         regions,
         pages,
         touched: ArrayVec::new(),
     };
-    let code = fetch(&mut device, q, &mut memory, answer);
-    handle.put(device);
+    let code = fetch(&mut controller, q, &mut memory, answer);
+    handle.put(controller);
     code
 }
 
@@ -56,15 +56,15 @@ pub extern "C" fn nvmectl_walk_over(
     ensures hidden { hidden_in regions.new ≡ hidden_in regions.old }
 {
     *answer = nothing();
-    let mut device = or_code!(handle.take(alloc));
+    let mut controller = or_code!(handle.take(alloc));
     let pages = pages_in(regions);
     let mut memory = LentRegions {
         regions,
         pages,
         touched: ArrayVec::new(),
     };
-    let code = walk(&mut device, q, cid, &mut memory, answer);
-    handle.put(device);
+    let code = walk(&mut controller, q, cid, &mut memory, answer);
+    handle.put(controller);
     code
 }
 
@@ -83,15 +83,15 @@ pub extern "C" fn nvmectl_complete_over(
     ensures hidden { hidden_in regions.new ≡ hidden_in regions.old }
 {
     *answer = nothing();
-    let mut device = or_code!(handle.take_own(alloc));
+    let mut controller = or_code!(handle.take_own(alloc));
     let pages = pages_in(regions);
     let mut memory = LentRegions {
         regions,
         pages,
         touched: ArrayVec::new(),
     };
-    let code = complete(&mut device, q, cid, &mut memory, answer);
-    handle.put(device);
+    let code = complete(&mut controller, q, cid, &mut memory, answer);
+    handle.put(controller);
     code
 }
 
@@ -108,14 +108,14 @@ pub extern "C" fn nvmectl_next_over(
     ensures table { table_of regions.new ≡ table_of regions.old }
     ensures hidden { hidden_in regions.new ≡ hidden_in regions.old }
 {
-    let device = or_code!(handle.take(alloc));
+    let controller = or_code!(handle.take(alloc));
     let pages = pages_in(regions);
     let mut memory = LentRegions {
         regions,
         pages,
         touched: ArrayVec::new(),
     };
-    *step = step_of(look(&device, &mut memory));
-    handle.put(device);
+    *step = step_of(look(&controller, &mut memory));
+    handle.put(controller);
     DONE
 }

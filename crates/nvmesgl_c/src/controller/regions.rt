@@ -5,15 +5,15 @@ ghost use Rattle.nvmesgl_c.specs.ControllerCalls.{FetchesBy, WalksBy, CompletesB
 ghost use Rattle.nvmesgl_c.specs.ControllerNext.{Sees};
 ghost use Rattle.nvmesgl_c.specs.Regions.{hidden_in, memory_of, table_of};
 
+use crate::controller::any_controller::AnyController;
 use crate::controller::code::code_of_refusal;
-use crate::controller::device::Device;
 use crate::words::code::DONE;
 use crate::words::{Answer, LentRegions, Recorded, touching, walked};
 use controller_core::ControllerStep;
 
 /// Fetches over a memory that is lent, and tells what was fetched. The borrow, the table and what no address shows are the same afterwards.
 pub(crate) fn fetch(
-    controller: &mut Device,
+    controller: &mut AnyController,
     q: u16,
     memory: &mut LentRegions<'_, '_>,
     answer: &mut Answer,
@@ -39,7 +39,7 @@ pub(crate) fn fetch(
 
 /// Does a unit of a command's list over a memory that is lent, and tells how the list stands. The borrow, the table and what no address shows are the same afterwards.
 pub(crate) fn walk(
-    controller: &mut Device,
+    controller: &mut AnyController,
     q: u16,
     cid: u16,
     memory: &mut LentRegions<'_, '_>,
@@ -66,7 +66,7 @@ pub(crate) fn walk(
 
 /// Completes a command over a memory that is lent. The borrow, the table and what no address shows are the same afterwards.
 pub(crate) fn complete(
-    controller: &mut Device,
+    controller: &mut AnyController,
     q: u16,
     cid: u16,
     memory: &mut LentRegions<'_, '_>,
@@ -90,7 +90,7 @@ pub(crate) fn complete(
 
 /// Looks for a step over a memory that is lent and recorded. Both borrows, the table and what no address shows are the same afterwards.
 fn look_over(
-    controller: &Device,
+    controller: &AnyController,
     memory: &mut Recorded<'_, LentRegions<'_, '_>>,
 ) -> Option<ControllerStep>
     ensures lent { memory.new.lent.ghost_name ≡ memory.old.lent.ghost_name }
@@ -104,7 +104,10 @@ fn look_over(
 }
 
 /// Looks for a step over a memory that is lent. The borrow, the table and what no address shows are the same afterwards.
-pub(crate) fn look(controller: &Device, memory: &mut LentRegions<'_, '_>) -> Option<ControllerStep>
+pub(crate) fn look(
+    controller: &AnyController,
+    memory: &mut LentRegions<'_, '_>,
+) -> Option<ControllerStep>
     ensures same { memory.new.regions.ghost_name ≡ memory.old.regions.ghost_name }
     ensures table { table_of memory.new.regions.now ≡ table_of memory.old.regions.now }
     ensures hidden { hidden_in memory.new.regions.now ≡ hidden_in memory.old.regions.now }

@@ -17,7 +17,7 @@ use std::marker::Model;
 
 /// A line that must be printed.
 #[derive(Debug, Drop)]
-pub struct Answer {
+pub struct PrintedLine {
     /// The number of its line in the transcript, from 1.
     pub number: u32,
     /// What must be printed, without the number of the step's line.
@@ -32,7 +32,7 @@ pub struct Told {
     /// What it is.
     pub line: Line,
     /// What must be printed, up to the next line of the script, and after the last one also the counts.
-    pub answers: Vec<Answer>,
+    pub answers: Vec<PrintedLine>,
 }
 
 /// A transcript. Contracts see it as the options that it says and the lines of its script with their answers.
@@ -184,7 +184,7 @@ fn add_answer(last: Told, number: u32, text: String) -> Result<Told, AllocError>
     ensures { IfOk result (λ more. (below : Below) → with_below (told_text more) below ≡ with_below (told_text last) (with_above number (LineText.an_answer (string_bytes text)) below)) }
 {
     let mut last = last;
-    last.answers.push(Answer { number, text })?;
+    last.answers.push(PrintedLine { number, text })?;
     Ok(last)
 }
 

@@ -5,7 +5,7 @@ use std::alloc::{AllocError, Allocator};
 use step_core::{Refusal, Reply, ReplyIn, Touched};
 
 /// A reply, or want of memory for the list of the commands that the desk keeps.
-pub type Answer<A> = Result<ReplyIn<A>, AllocError>;
+pub type DeskAnswer<A> = Result<ReplyIn<A>, AllocError>;
 
 /// What a refused call of the host answers.
 pub fn refused<A: Allocator>(why: Refusal) -> ReplyIn<A> {
@@ -40,7 +40,7 @@ pub fn kept<A: Allocator>(
     values: &mut Vec<Value<A>>,
     value: Value<A>,
     reply: ReplyIn<A>,
-) -> Answer<A> {
+) -> DeskAnswer<A> {
     values.push(value)?;
     Ok(reply)
 }

@@ -20,7 +20,7 @@ use step_core::{Bytes, Config, Reply};
 
 /// What a run leaves.
 #[derive(Drop)]
-pub struct Outcome<A: Allocator = Global> {
+pub struct RunEnd<A: Allocator = Global> {
     /// The report of its book.
     pub report: ReportIn<A>,
     /// How its jobs ended.
@@ -69,7 +69,7 @@ fn outcome_of<
     server: Server,
     gate: &G,
     blank: BlankBook<A>,
-) -> Result<Outcome<A>, RunFault>
+) -> Result<RunEnd<A>, RunFault>
     requires name { blank.ledger.name ≡ L.name }
     requires parts { blank.ledger.parts ≡ L.parts }
     requires number { blank.ledger.parts ≡ 65536 }
@@ -87,7 +87,7 @@ fn outcome_of<
     let entries = book.log().len();
     book.end();
     match refusals {
-        Ok(refusals) => Ok(Outcome {
+        Ok(refusals) => Ok(RunEnd {
             report,
             jobs,
             owners,
@@ -108,7 +108,7 @@ pub fn play_at<A: Allocator + Copy + Send + Sync, G: Gate + Sync, R: Threads + W
     depth: usize,
     server: Server,
     gate: &G,
-) -> Result<Outcome<A>, RunFault>
+) -> Result<RunEnd<A>, RunFault>
     requires some { 1 ≤ vec_len jobs }
     requires few { vec_len jobs ≤ 16 }
     requires at_least_one { 1 ≤ depth }
@@ -138,7 +138,7 @@ pub fn play<A: Allocator + Copy + Send + Sync, G: Gate + Sync, R: Threads + Wait
     blocks: u32,
     jobs: Vec<Vec<JobIn<A>, A>, A>,
     gate: &G,
-) -> Result<Outcome<A>, RunFault>
+) -> Result<RunEnd<A>, RunFault>
     requires some { 1 ≤ vec_len jobs }
     requires few { vec_len jobs ≤ 16 }
 {

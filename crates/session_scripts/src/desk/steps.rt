@@ -1,6 +1,6 @@
 //! The steps that commands make by themselves, without a book.
 
-use crate::desk::answers::{Answer, kept, refused};
+use crate::desk::answers::{DeskAnswer, kept, refused};
 use crate::desk::values::{Value, draft_of, finished_of};
 use std::alloc::{AllocError, Allocator};
 use step_core::{Bytes, Refusal, Reply};
@@ -10,7 +10,12 @@ use step_core::{Bytes, Refusal, Reply};
 /// # Errors
 ///
 /// Where memory is refused for the list of the commands.
-pub fn fill<A: Allocator>(values: &mut Vec<Value<A>>, q: u16, cid: u16, bytes: &[u8]) -> Answer<A> {
+pub fn fill<A: Allocator>(
+    values: &mut Vec<Value<A>>,
+    q: u16,
+    cid: u16,
+    bytes: &[u8],
+) -> DeskAnswer<A> {
     let Some(mut draft) = draft_of(values, q, cid) else {
         return Ok(Reply::NoValue);
     };
@@ -31,7 +36,7 @@ pub fn build<A: Allocator + Copy>(
     values: &mut Vec<Value<A>>,
     q: u16,
     cid: u16,
-) -> Answer<A> {
+) -> DeskAnswer<A> {
     let Some(mut draft) = draft_of(values, q, cid) else {
         return Ok(Reply::NoValue);
     };
@@ -52,7 +57,7 @@ pub fn gather<A: Allocator + Copy>(
     values: &mut Vec<Value<A>>,
     q: u16,
     cid: u16,
-) -> Answer<A> {
+) -> DeskAnswer<A> {
     let Some(finished) = finished_of(values, q, cid) else {
         return Ok(Reply::NoValue);
     };

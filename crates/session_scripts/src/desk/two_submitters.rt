@@ -2,7 +2,7 @@
 
 ghost use Rattle.std.specs.Prelude.{◌≡◌, vec_len, IfOk};
 
-use crate::desk::runs::{Outcome, is_done, job};
+use crate::desk::runs::{RunEnd, is_done, job};
 use driver_threads::{JobEndIn, JobIn};
 use entry_codec::Status;
 use io_commands::Kind;
@@ -112,7 +112,7 @@ const COUNTS: Counts = Counts {
 /// Whether two submitters on one queue left what they must. Their jobs came to their ends, and nothing was refused: the log has ten entries for each,
 /// one reserve, submit, ring, fetch, complete, reap, collect and release, and two steps of its walk. No command has a page, and the report counts twelve
 /// submissions, six for each of two seats.
-pub fn is_as_wanted<A: Allocator>(outcome: &Outcome<A>) -> bool {
+pub fn is_as_wanted<A: Allocator>(outcome: &RunEnd<A>) -> bool {
     let [first, second] = outcome.jobs.as_slice() else {
         return false;
     };

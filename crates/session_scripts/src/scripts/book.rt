@@ -14,7 +14,7 @@ use std::alloc::{AllocError, Allocator, Global};
 use std::marker::Brand;
 use std::sync::Wait;
 use step_core::{Config, Image, OpenRefusal};
-use test_support::Refusal;
+use test_support::RefusedCalls;
 
 /// Opens a book, again where memory was refused.
 pub fn opened<L: FullLogBrand, A: Allocator + Copy>(
@@ -71,10 +71,10 @@ fn play_at<'h, L: FullLogBrand, R: Eprint + Wait>(
     let (alloc, heap) = (desk.alloc, desk.heap);
     seated(desk)?;
     let mut end = play_refused(rt, alloc, desk, run, left)?;
-    heap.refuse(Refusal::Nth(end.left));
+    heap.refuse(RefusedCalls::Nth(end.left));
     let mut closes = submissions(desk);
     end.left = end.left.saturating_sub(heap.tally().calls);
-    heap.refuse(Refusal::Never);
+    heap.refuse(RefusedCalls::Never);
     if closes == Err(CloseFault::Memory) {
         match desk.standing(alloc) {
             Ok(standing) if standing == end.standing => {}
@@ -104,11 +104,11 @@ fn play_in<'h, L: LogBrand, R: Eprint + Wait>(
 {
     let is_visit = matches!(run.way, Way::Visit);
     if !is_visit {
-        heap.refuse(Refusal::Nth(run.growth));
+        heap.refuse(RefusedCalls::Nth(run.growth));
     }
     let book = opened::<Full<L>, &'h Heap>(heap, config, image, blank)?;
     let asked = if is_visit { 0 } else { heap.tally().calls };
-    heap.refuse(Refusal::Never);
+    heap.refuse(RefusedCalls::Never);
     let left = run.growth.saturating_sub(asked);
     let access = match run.way {
         Way::Lock => Access::Lock(Shared::new(book)),

@@ -42,7 +42,7 @@ impl Way {
 
 /// How something was played, and what was wrong with it.
 #[derive(Clone, Copy)]
-pub struct Fault {
+pub struct PlayFault {
     /// How it was played.
     pub way: Way,
     /// Which growth was refused, counted from 1; 0 where none was.
@@ -51,9 +51,9 @@ pub struct Fault {
     pub wrong: Wrong,
 }
 
-impl Display for Fault {
+impl Display for PlayFault {
     fn fmt<W: Write>(&self, f: &mut Formatter<W>) -> fmt::Result {
-        let Fault { way, growth, wrong } = *self;
+        let PlayFault { way, growth, wrong } = *self;
         let way = way.words();
         match growth {
             0 => write!(f, "{wrong} ({way})"),

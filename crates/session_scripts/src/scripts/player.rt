@@ -1,7 +1,7 @@
 //! Something is played in a heap of its own, and once for each of its growths, which is refused.
 
 use crate::scripts::book::through_book;
-use crate::scripts::fault::{Fault, Way, Wrong};
+use crate::scripts::fault::{PlayFault, Way, Wrong};
 use crate::scripts::refused::{End, Run, play_refused};
 use crate::scripts::standing::Heap;
 use script_cli::transcripts::OnBench;
@@ -34,7 +34,7 @@ fn on_bench<'h, R: Eprint>(
 }
 
 /// Plays a script, and sees that it leaves what it must, and an empty heap.
-pub fn play_run<R: AllocGlobal + Eprint + Wait>(rt: &R, run: Run<'_>) -> Result<End, Fault> {
+pub fn play_run<R: AllocGlobal + Eprint + Wait>(rt: &R, run: Run<'_>) -> Result<End, PlayFault> {
     let Run { way, growth, .. } = run;
     let alloc = rt.alloc();
     let heap = Refusing::new(alloc);
@@ -50,11 +50,11 @@ pub fn play_run<R: AllocGlobal + Eprint + Wait>(rt: &R, run: Run<'_>) -> Result<
         },
         Err(wrong) => wrong,
     };
-    Err(Fault { way, growth, wrong })
+    Err(PlayFault { way, growth, wrong })
 }
 
 /// Plays a script once for each growth that it has, which is refused, and answers how many those are.
-pub fn refuse_each<R: AllocGlobal + Eprint + Wait>(rt: &R, run: Run<'_>) -> Result<u64, Fault> {
+pub fn refuse_each<R: AllocGlobal + Eprint + Wait>(rt: &R, run: Run<'_>) -> Result<u64, PlayFault> {
     for growth in 1..MANY {
         let end = play_run(rt, Run { growth, ..run })?;
         if end.left > 0 {

@@ -5,7 +5,7 @@ use crate::scripts::standing::{Standing, Stands};
 use script_cli::transcripts::{StepMaker, Transcript, play};
 use std::alloc::{AllocError, Global};
 use step_core::{Counts, Owner, PageNo, Reply, Step};
-use test_support::Refusal;
+use test_support::RefusedCalls;
 
 /// A script that is played.
 #[derive(Clone, Copy)]
@@ -146,9 +146,9 @@ impl<'m, M: Stands> Steps<'m, M> {
         );
         let is_without = self.takes_all && takes_none;
         let refusal = if is_without {
-            Refusal::NthOn(1)
+            RefusedCalls::NthOn(1)
         } else {
-            Refusal::Nth(self.left)
+            RefusedCalls::Nth(self.left)
         };
         let (answer, tally) = self.maker.step_without(refusal, step)?;
         if is_without {

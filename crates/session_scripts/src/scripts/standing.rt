@@ -7,7 +7,7 @@ use script_cli::transcripts::{OnBench, StepMaker, reply_in, step_in};
 use std::alloc::{AllocError, Allocator, Global};
 use std::sync::Wait;
 use step_core::{Counts, Owner, PageNo, Reply, Step};
-use test_support::{Refusal, Refusing, Tally};
+use test_support::{RefusedCalls, Refusing, Tally};
 
 /// A heap that refuses on purpose.
 pub type Heap = Refusing<Global>;
@@ -22,7 +22,11 @@ pub trait Stands: StepMaker {
     /// # Errors
     ///
     /// Where memory is refused for what is around the step.
-    fn step_without(&mut self, refusal: Refusal, step: &Step) -> Result<(Reply, Tally), AllocError>;
+    fn step_without(
+        &mut self,
+        refusal: RefusedCalls,
+        step: &Step,
+    ) -> Result<(Reply, Tally), AllocError>;
 
     /// How it stands.
     ///
@@ -105,7 +109,7 @@ impl Standing {
 impl<'h> Stands for OnBench<&'h Heap> {
     fn step_without(
         &mut self,
-        refusal: Refusal,
+        refusal: RefusedCalls,
         step: &Step,
     ) -> Result<(Reply, Tally), AllocError> {
         let heap = self.heap;
@@ -113,7 +117,7 @@ impl<'h> Stands for OnBench<&'h Heap> {
         heap.refuse(refusal);
         let answer = self.bench.step(made);
         let tally = heap.tally();
-        heap.refuse(Refusal::Never);
+        heap.refuse(RefusedCalls::Never);
         Ok((reply_in(self.alloc, answer)?, tally))
     }
 
@@ -127,7 +131,7 @@ impl<'h> Stands for OnBench<&'h Heap> {
 impl<'h, L: FullLogBrand, R: Wait> Stands for DeskIn<'h, L, R> {
     fn step_without(
         &mut self,
-        refusal: Refusal,
+        refusal: RefusedCalls,
         step: &Step,
     ) -> Result<(Reply, Tally), AllocError> {
         let heap = self.heap;
@@ -135,7 +139,7 @@ impl<'h, L: FullLogBrand, R: Wait> Stands for DeskIn<'h, L, R> {
         heap.refuse(refusal);
         let answer = self.make(made);
         let tally = heap.tally();
-        heap.refuse(Refusal::Never);
+        heap.refuse(RefusedCalls::Never);
         Ok((reply_in(self.alloc, answer?)?, tally))
     }
 

@@ -2,7 +2,7 @@
 
 use crate::desk::runs::play;
 use crate::desk::two_submitters::{ON_ONE_QUEUE, is_as_wanted, two_lists};
-use crate::scripts::fault::{Fault, Way, Wrong};
+use crate::scripts::fault::{PlayFault, Way, Wrong};
 use crate::scripts::player::MANY;
 use crate::scripts::standing::Heap;
 use driver_threads::{Open, RunFault};
@@ -10,7 +10,7 @@ use script_cli::transcripts::Options;
 use std::alloc::{AllocError, AllocGlobal};
 use std::sync::Wait;
 use std::thread::Threads;
-use test_support::{Refusal, Refusing};
+use test_support::{RefusedCalls, Refusing};
 
 /// Runs two submitters in a heap with one growth refused: it leaves what it must, or it wants memory where that was refused.
 fn run_in<'h, R: Threads + Wait + Sync>(rt: &R, heap: &'h Heap, growth: u64) -> Result<(), Wrong> {
@@ -19,7 +19,7 @@ fn run_in<'h, R: Threads + Wait + Sync>(rt: &R, heap: &'h Heap, growth: u64) -> 
         Ok(jobs) => jobs,
         Err(AllocError) => return Err(Wrong::Memory),
     };
-    heap.refuse(Refusal::Nth(growth));
+    heap.refuse(RefusedCalls::Nth(growth));
     let ended = play(rt, heap, config, blocks, jobs, &Open);
     match ended {
         Ok(outcome) if is_as_wanted(&outcome) => Ok(()),
@@ -34,7 +34,7 @@ fn run_in<'h, R: Threads + Wait + Sync>(rt: &R, heap: &'h Heap, growth: u64) -> 
 /// end.
 pub fn refuse_each_in_threads<R: AllocGlobal + Threads + Wait + Sync>(
     rt: &R,
-) -> Result<u64, Fault> {
+) -> Result<u64, PlayFault> {
     for growth in 1..MANY {
         let heap = Refusing::new(rt.alloc());
         let wrong = match run_in(rt, &heap, growth) {
@@ -44,7 +44,7 @@ pub fn refuse_each_in_threads<R: AllocGlobal + Threads + Wait + Sync>(
             Err(wrong) => wrong,
         };
         let way = Way::Threads;
-        return Err(Fault { way, growth, wrong });
+        return Err(PlayFault { way, growth, wrong });
     }
     Ok(MANY)
 }

@@ -21,7 +21,7 @@ pub enum Layout {
 
 /// What is printed of a case, and how its command ends.
 #[derive(Debug, Drop)]
-pub struct Answer {
+pub struct Explained {
     /// The lines, each with its line feed.
     pub text: String,
     /// The status that the command completes with.
@@ -29,7 +29,7 @@ pub struct Answer {
 }
 
 /// Explains a case.
-fn answer_of(alloc: Global, case: Case, layout: Layout) -> Result<Answer, AllocError> {
+fn answer_of(alloc: Global, case: Case, layout: Layout) -> Result<Explained, AllocError> {
     let mut case = case;
     let entry = SubEntry::read(&case.entry);
     let explanation = explain(alloc, &entry, &case.namespace, &mut case.memory)?;
@@ -38,7 +38,7 @@ fn answer_of(alloc: Global, case: Case, layout: Layout) -> Result<Answer, AllocE
         Layout::Lines => put_explanation(&mut text, &case, &explanation)?,
         Layout::Objects => put_objects(alloc, &mut text, &case, &explanation)?,
     }
-    Ok(Answer {
+    Ok(Explained {
         text,
         status: explanation.status,
     })
@@ -55,7 +55,7 @@ pub fn explain_text<R: AllocGlobal + Files>(
     path: Option<&str>,
     text: &[u8],
     layout: Layout,
-) -> Result<Answer, CaseFault> {
+) -> Result<Explained, CaseFault> {
     let case = read_case(rt, folder_of(path.unwrap_or("")), text)?;
     match answer_of(rt.alloc(), case, layout) {
         Ok(answer) => Ok(answer),

@@ -3,7 +3,7 @@ use Rattle.admin_commands.specs.{Verdicts.decision, declared.DeviceView.DeviceVi
 use Rattle.entry_codec.specs.declared.status.Status.{Status}
 use Rattle.controller_core.proofs.{Lists.{few_stay, length-change}, Managing.{length-after, decision_names, managed_is, managed_sound}}
 use Rattle.controller_core.specs.{Contents.{Contents, FetchedCommand}, Managing.{NamesPages, command_of, view_for, with_taken}, Tables.Outstanding}
-use Rattle.controller_core.specs.declared.{command.Work.TheVariants.Admin, queue.ControllerQueue.ControllerQueue}
+use Rattle.controller_core.specs.declared.{command.FetchedWork.TheVariants.Admin, queue.ControllerQueue.ControllerQueue}
 use Rattle.controller_core.proofs.controller.Controller.manage_entry.Goals as goal
 
 pub put-requires : goal.put-requires

@@ -1,6 +1,6 @@
 use Rattle.controller_core.proofs.{Awaited.looked_there, Fetched.{begun_fetch, can_keep, err_fetch, memory_refused, refused_fetch}}
 use Rattle.controller_core.specs.{Contents.Contents}
-use Rattle.controller_core.specs.declared.refusal.Refusal.TheVariants as refusal
+use Rattle.controller_core.specs.declared.refusal.ControllerRefusal.TheVariants as refusal
 use Rattle.std.proofs.Common.{ap, sym, ◌∙◌}
 use Rattle.block_image.specs.Blocks.{block_count}
 use Rattle.controller_core.proofs.fetch.Controller+A.fetch.Goals as goal

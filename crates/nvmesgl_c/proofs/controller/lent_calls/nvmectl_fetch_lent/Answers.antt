@@ -4,7 +4,7 @@ use Rattle.nvmesgl_c.proofs.controller.lent_calls.nvmectl_fetch_lent.Goals as go
 
 pub returns-clause-calls : goal.returns-clause-calls
 returns-clause-calls c =
-    called_over (FetchesBlocks c.args.q c.args.slba c.args.blocks.now _ c.args.wanted.now c.fetch-code.new.wanted) _ _ c.in-Ok.value.value.contents c.deref_mut.result.now.contents c.fetch-code.new.device.contents c.args.regions.now _ c.fetch-code.result
+    called_over (FetchesBlocks c.args.q c.args.slba c.args.blocks.now _ c.args.wanted.now c.fetch-code.new.wanted) _ _ c.in-Ok.value.value.contents c.deref_mut.result.now.contents c.fetch-code.new.controller.contents c.args.regions.now _ c.fetch-code.result
     c.fetch-code.new.answer c.in-Ok.ensures.taken (ap contents c.deref_mut.ensures.value) (c.put.ensures.lent c.fetch-code.ensures.kind) (search rules)
 
 pub returns-clause-unlent : goal.returns-clause-unlent

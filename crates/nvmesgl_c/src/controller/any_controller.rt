@@ -1,6 +1,6 @@
 //! A controller of one of two kinds: it holds an image, or its blocks are lent for each call that reads or writes them.
 
-ghost use Rattle.std.specs.Prelude.{◌≡◌, ◌≤◌, [], true, false, None, IfOk, IfSome, IfNone, OnOk, OnErr, find, length};
+ghost use Rattle.std.specs.Prelude.{◌≡◌, ◌≤◌, true, false, None, IfOk, IfSome, IfNone, OnOk, OnErr, find, length};
 ghost use Rattle.std.specs.Option.{option_copied};
 ghost use Rattle.std.specs.Result.{result_err};
 ghost use Rattle.block_image.specs.Blocks.{block_count};
@@ -12,11 +12,11 @@ ghost use Rattle.controller_core.specs.Lending.{with_image, bytes_lent, is_in, l
 ghost use Rattle.controller_core.specs.Looks.{refusal_by, IsAtRest};
 ghost use Rattle.controller_core.specs.Resetting.{reset};
 ghost use Rattle.controller_core.specs.Walking.{walk_refusal, WalksTo};
-ghost use Rattle.nvmesgl_c.specs.ControllerDevices.{holding, lending, with_contents};
+ghost use Rattle.nvmesgl_c.specs.AnyControllers.{holding, lending, with_contents};
 
 use block_image::{Away, Image, Lent};
 use controller_core::{
-    Controller, ControllerQueue, ControllerStep, FetchedCommand, LentRefusal, Refusal,
+    Controller, ControllerQueue, ControllerRefusal, ControllerStep, FetchedCommand, LentRefusal,
 };
 use controller_walk::WalkState;
 use page_memory::{Dma, TouchRecord};
@@ -34,35 +34,35 @@ enum Kind {
 
 /// A controller of one of two kinds. Contracts see what it keeps, and which kind it is.
 #[derive(Drop)]
-pub struct Device {
+pub struct AnyController {
     kind: Kind,
 }
 
-impl Model for Device {
-    ghost use Rattle.nvmesgl_c.specs.ControllerDevices.{DeviceContents};
+impl Model for AnyController {
+    ghost use Rattle.nvmesgl_c.specs.AnyControllers.{AnyContents};
 
-    ghost Value = { DeviceContents };
+    ghost Value = { AnyContents };
 
-    ghost use Rattle.nvmesgl_c.specs.ControllerDeviceOf.{device_of};
+    ghost use Rattle.nvmesgl_c.specs.AnyControllerOf.{any_of};
 
-    ghost view = { λ d. device_of d.kind };
+    ghost view = { λ d. any_of d.kind };
 }
 
-impl Device {
+impl AnyController {
     /// One that holds an image.
-    pub fn holding(controller: Controller) -> Device
+    pub fn holding(controller: Controller) -> AnyController
         ensures { result ≡ holding controller }
     {
-        Device {
+        AnyController {
             kind: Kind::Own(controller),
         }
     }
 
     /// One whose blocks are lent.
-    pub fn lending(controller: Controller<Global, Away>) -> Device
+    pub fn lending(controller: Controller<Global, Away>) -> AnyController
         ensures { result ≡ lending controller }
     {
-        Device {
+        AnyController {
             kind: Kind::Lending(controller),
         }
     }
@@ -161,7 +161,12 @@ impl Device {
     }
 
     /// Does a unit of a command's list, as [`Controller::walk`] does.
-    pub fn walk<D: Dma>(&mut self, q: u16, cid: u16, dma: &mut D) -> Result<WalkState, Refusal>
+    pub fn walk<D: Dma>(
+        &mut self,
+        q: u16,
+        cid: u16,
+        dma: &mut D,
+    ) -> Result<WalkState, ControllerRefusal>
         requires room { length (D.reached dma.old) ≤ 2 }
         ensures refusal { result_err result ≡ walk_refusal self.old.contents q cid }
         ensures refused { OnErr result ((self.new.contents ≡ self.old.contents) × (D.memory dma.new ≡ D.memory dma.old) × (D.reached dma.new ≡ D.reached dma.old)) }
@@ -177,7 +182,7 @@ impl Device {
     }
 
     /// Fetches, over the image that it holds, as [`Controller::fetch`] does.
-    pub fn fetch<D: Dma>(&mut self, q: u16, dma: &mut D) -> Result<u16, Refusal>
+    pub fn fetch<D: Dma>(&mut self, q: u16, dma: &mut D) -> Result<u16, ControllerRefusal>
         requires own { self.old.lends ≡ false }
         requires room { length (D.reached dma.old) ≤ 1 }
         ensures fetches { Fetches self.old.contents (D.page_count dma.old) (D.memory dma.old) (D.reached dma.old) q result self.new.contents (D.memory dma.new) (D.reached dma.new) }
@@ -192,7 +197,12 @@ impl Device {
     }
 
     /// Completes a command, over the image that it holds, as [`Controller::complete`] does.
-    pub fn complete<D: Dma>(&mut self, q: u16, cid: u16, dma: &mut D) -> Result<(), Refusal>
+    pub fn complete<D: Dma>(
+        &mut self,
+        q: u16,
+        cid: u16,
+        dma: &mut D,
+    ) -> Result<(), ControllerRefusal>
         requires own { self.old.lends ≡ false }
         requires room { length (D.reached dma.old) ≤ 2 }
         ensures refusal { result_err result ≡ complete_refusal self.old.contents (D.memory dma.old) q cid }

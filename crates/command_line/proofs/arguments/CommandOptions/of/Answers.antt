@@ -1,6 +1,6 @@
 use Rattle.std.proofs.Common.{◌∙◌, refl, codes}
 use Rattle.clap.{proofs.WalkLemmas.first_value-rows, specs.Words.found_of}
-use Rattle.command_line.proofs.arguments.Options.of.Goals as goal
+use Rattle.command_line.proofs.arguments.CommandOptions.of.Goals as goal
 
 pub returns : goal.returns
 returns c =
