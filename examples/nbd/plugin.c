@@ -4,6 +4,7 @@
  * blocks, and write them changed. nbdkit ./plugin.so [size=SIZE] [machines=N] [pages=N] [entries=N] [segment=N] [command=BYTES] */
 #define NBDKIT_API_VERSION 2
 #include <errno.h>
+#include <malloc.h>
 #include <pthread.h>
 #include <stdbool.h>
 #include <stdint.h>
@@ -14,7 +15,7 @@
 #define THREAD_MODEL NBDKIT_THREAD_MODEL_PARALLEL
 enum { BLOCK = 512, MOST_MACHINES = 64, MOST_COMMAND = 1 << 20 };
 #define MOST_IMAGE (65536 * BLOCK)
-#define STRIPE (256u << 10)
+#define STRIPE (128u << 10)
 
 struct machine {
     nvmesgl handle;
@@ -86,7 +87,7 @@ static int set(const char *key, const char *value) {
 static int all_set(void) {
     if (machine_count >= 1 && machine_count <= MOST_MACHINES && most >= BLOCK && most <= MOST_COMMAND && most % BLOCK == 0
         && size > 0 && size % ((int64_t)machine_count * STRIPE) == 0 && size / machine_count <= MOST_IMAGE) return 0;
-    nbdkit_error("size: whole stripes of 256 KiB of each machine, 32 MiB a machine at most; machines: 1 to 64; command: whole blocks, 1 MiB at most");
+    nbdkit_error("size: whole stripes of 128 KiB of each machine, 32 MiB a machine at most; machines: 1 to 64; command: whole blocks, 1 MiB at most");
     return -1;
 }
 
@@ -110,6 +111,15 @@ static void unload(void) {
     for (unsigned i = 0; i < MOST_MACHINES; i++) nvmesgl_close(&machines[i].handle);
 }
 
+/* A command takes lists as long as its bytes. What is freed stays with malloc, so that the next command's lists need no new memory of the system. */
+static void load(void) {
+#ifdef M_TRIM_THRESHOLD
+    mallopt(M_MMAP_THRESHOLD, 4 << 20);
+    mallopt(M_TRIM_THRESHOLD, 256 << 20);
+    mallopt(M_TOP_PAD, 1 << 20);
+#endif
+}
+
 static void *begin(int readonly) { return (void)readonly, NBDKIT_HANDLE_NOT_NEEDED; }
 static int64_t bytes_of(void *h) { return (void)h, size; }
 static int yes(void *h) { return (void)h, 1; }
@@ -118,7 +128,7 @@ static int writes(void *h, const void *from, uint32_t count, uint64_t at, uint32
 static int flush(void *h, uint32_t flags) { return (void)h, (void)flags, 0; } /* the image is memory: a Write that ended is there */
 
 static struct nbdkit_plugin plugin = {
-    .name = "nvmesgl", .version = NVMESGL_VERSION, .config = set, .config_complete = all_set, .after_fork = ready, .unload = unload, .open = begin,
+    .name = "nvmesgl", .version = NVMESGL_VERSION, .load = load, .config = set, .config_complete = all_set, .after_fork = ready, .unload = unload, .open = begin,
     .get_size = bytes_of, .can_multi_conn = yes, .can_flush = yes, .pread = reads, .pwrite = writes, .flush = flush,
 };
 NBDKIT_REGISTER_PLUGIN(plugin)
