@@ -2,14 +2,12 @@
  * and a guest that changes an entry meanwhile; then arbitrary commands beside a model in memory, with a callback that fails now and then. */
 #define _XOPEN_SOURCE 700
 #define _FILE_OFFSET_BITS 64
-#include "../../examples/c/entry.h"
+#include "../../examples/c/file_disk.h"
 #include "arbitrary.h"
-#include "nvmectl.h"
 
 #include <stdlib.h>
-#include <unistd.h>
 
-enum { PAGE = 4096, BLOCK = 512, ENTRIES = 4, RING = 2 * PAGE, ENDS = 3 * PAGE, LIST = 4 * PAGE, MOST = 8, WINDOWS = 6, WINDOW = 24 };
+enum { PAGE = 4096, ENTRIES = 4, RING = 2 * PAGE, ENDS = 3 * PAGE, LIST = 4 * PAGE, MOST = 8, WINDOWS = 6, WINDOW = 24 };
 enum { DIFFERS = 0x285, OUT_OF_RANGE = 0x080 };
 #define BLOCKS UINT32_C(0x80000000)
 #define HIGH UINT64_C(0x100000000)
@@ -42,20 +40,17 @@ static int file;
 static unsigned reads, writes, failing, changing;
 
 static int disk_read(void *context, uint64_t slba, uint32_t blocks, uint8_t *into) {
-    size_t len = (size_t)BLOCK * blocks;
     reads++;
     if (failing != 0 && --failing == 0) return -1;
     /* Meanwhile the guest writes other entries, of other blocks. */
     if (changing != 0) changing--, low[RING + 64 * ((slot + ENTRIES - 1) % ENTRIES) + 40]++;
-    memset(into, 0, len);
-    return pread(*(int *)context, into, len, (off_t)(BLOCK * slba)) < 0;
+    return read_file(context, slba, blocks, into);
 }
 
 static int disk_write(void *context, uint64_t slba, uint32_t blocks, const uint8_t *from) {
-    ssize_t len = (ssize_t)BLOCK * blocks;
     writes++;
     if (failing != 0 && --failing == 0) return -1;
-    return pwrite(*(int *)context, from, (size_t)len, (off_t)(BLOCK * slba)) != len;
+    return write_file(context, slba, blocks, from);
 }
 
 static const nvmectl_disk disk = {&file, disk_read, disk_write};
@@ -66,9 +61,9 @@ static const nvmectl_disk disk = {&file, disk_read, disk_write};
 static void submit(unsigned opcode, uint16_t cid, uint64_t slba, unsigned blocks, unsigned cut) {
     uint8_t *entry = low + RING + 64 * slot;
     write_entry(entry, opcode, cid, slba, blocks);
-    describe(entry + 24, cut ? 3 : 0, cut ? LIST : HIGH, cut ? 32 : BLOCK * blocks);
-    describe(low + LIST, 0, HIGH, cut);
-    describe(low + LIST + 16, 0, HIGH + cut, BLOCK * blocks - cut);
+    describe(entry + 24, cut ? THE_LAST_SEGMENT : DATA_BLOCK, cut ? LIST : HIGH, cut ? 32 : BLOCK * blocks);
+    describe(low + LIST, DATA_BLOCK, HIGH, cut);
+    describe(low + LIST + 16, DATA_BLOCK, HIGH + cut, BLOCK * blocks - cut);
     slot = (slot + 1) % ENTRIES;
     want("tail", nvmectl_tail(&controller, 1, (uint16_t)slot), NVMESGL_DONE);
 }

@@ -12,6 +12,8 @@ static const nvmectl_region region = {0, pool, sizeof pool};
 static nvmehost_memory memory = {pool, PAGES, 0, NULL};
 static nvmehost host = NVMEHOST_CLOSED;
 static nvmectl controller = NVMECTL_CLOSED;
+static int file;
+static const nvmectl_disk disk = {&file, read_file, write_file};
 
 /* Opens both, with the same rings: 4 entries each, where the host has laid them. */
 static int open_both(uint32_t blocks) {
@@ -34,13 +36,16 @@ static int open_both(uint32_t blocks) {
 static int ring_and_serve(void) {
     nvmesgl_answer answer;
     nvmehost_doorbell bell;
-    return told("ring", nvmehost_ring(&host, 1, &bell, &answer)) && told("tail", nvmectl_tail(&controller, 1, (uint16_t)bell.value)) && serve(&controller, &region);
+    return told("ring", nvmehost_ring(&host, 1, &bell, &answer)) && told("tail", nvmectl_tail(&controller, 1, (uint16_t)bell.value)) && serve_over(&controller, &region, &disk);
 }
 
+/* Takes the one completion, once it is there (rule 6 of docs/C.md), and lets the controller know. */
 static int poll_one(nvmehost_ended *ended) {
     nvmesgl_answer answer;
     nvmehost_doorbell bell;
+    nvmehost_queue queue;
     size_t count;
+    if (!told("look", nvmehost_look(&host, 1, &queue)) || !nvmehost_ready(&memory, &queue)) return 0;
     return told("poll", nvmehost_poll(&host, 1, ended, 1, &count, &bell, &answer)) && count == 1 && ended->state == NVMESGL_REAP_DONE && told("collect", ended->code)
         && told("head", nvmectl_head(&controller, 1, (uint16_t)bell.value));
 }

@@ -14,6 +14,9 @@ static const nvmectl_queue queues[2] = {{0, 1}, {2, 3}};
 static nvmectl controller = NVMECTL_CLOSED;
 static uint16_t slot;
 
+static int file;
+static const nvmectl_disk disk = {&file, read_file, write_file};
+
 /* An entry of queue 1, for two blocks, whose data is one run, and the doorbell. */
 static int submit(uint8_t opcode, uint16_t cid, uint64_t slba) {
     uint8_t *entry = memory + SUBMISSIONS + 64 * slot;
@@ -26,7 +29,7 @@ static int submit(uint8_t opcode, uint16_t cid, uint64_t slba) {
 /* A command from its entry to its completion: how it ended. */
 static unsigned command(const char *name, uint8_t opcode, uint16_t cid, uint64_t slba) {
     const uint8_t *completion = memory + COMPLETIONS + 16 * slot;
-    if (!submit(opcode, cid, slba) || !serve(&controller, &guest) || completion[12] != cid || !told("head", nvmectl_head(&controller, 1, slot))) return ~0u;
+    if (!submit(opcode, cid, slba) || !serve_over(&controller, &guest, &disk) || completion[12] != cid || !told("head", nvmectl_head(&controller, 1, slot))) return ~0u;
     unsigned status = (unsigned)(completion[14] | completion[15] << 8) >> 1;
     printf("%-8s of blocks %lu and %lu: %s\n", name, (unsigned long)slba, (unsigned long)slba + 1, nvmesgl_status_text((uint8_t)(status >> 8 & 7), (uint8_t)status));
     return status;
