@@ -13,7 +13,7 @@ pub struct Away {
 }
 
 impl Away {
-    /// So many blocks.
+    /// This many blocks, none of them at hand.
     pub fn new(blocks: u32) -> Away
         requires { 0 < blocks }
         ensures { result.blocks ≡ blocks }

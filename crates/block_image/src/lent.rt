@@ -52,7 +52,7 @@ impl<'a> Lent<'a> {
         })
     }
 
-    /// So many of the blocks that are lent, from `slba` on.
+    /// The bytes of `count` of the blocks that are lent, from `slba` on.
     fn blocks_from(&self, slba: u64, count: u64) -> &[u8]
         requires { is_lent self.now.first self.now.bytes.now slba count ≡ true }
         ensures { result.now ≡ blocks_at (shown self.now.blocks self.now.first self.now.bytes.now) slba count }

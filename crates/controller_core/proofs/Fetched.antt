@@ -12,7 +12,7 @@ use Rattle.queue_pair.specs.Rings.{ControllerSide}
 use Rattle.controller_core.proofs.Awaited.{begun_fits, looked_there}
 use Rattle.controller_core.specs.Contents.{Contents, IsController, AreCommands, FitsWork, is_command}
 use Rattle.controller_core.specs.Fetching.{LooksAt, Begins, IsBegun, FetchesTo, Fetches, Takes, TakesIn, RefusedBy, entry_refusal, is_known, live_side, look_refusal, rung_entry, begun}
-use Rattle.controller_core.specs.Lending.{with_image, IsRefusedBehindLook, entry_lacked, fetch_lacked, not_lent}
+use Rattle.controller_core.specs.Lending.{with_image, IsRefusedAfterLook, entry_lacked, fetch_lacked, not_lent}
 use Rattle.controller_core.specs.declared.{command.FetchedWork.TheVariants.Io, queue.ControllerQueue.ControllerQueue, refusal.ControllerRefusal.ControllerRefusal}
 use Rattle.controller_core.specs.declared.refusal.ControllerRefusal.TheVariants as refusal
 
@@ -49,16 +49,16 @@ begun_fetch pages c c1 c' m m' m'' q e reached looked reached' job image looks e
 
 -- and one that is refused
 pub refused_fetch : (c c' : Contents) (m m' m'' : Memory) (q : ℕ) (e : SubEntry) (reached looked reached' : List ℕ) (why : ControllerRefusal) → None ≡ look_refusal c m q → LooksAt c m reached q e looked → m' ≡ m
-    → IsRefusedBehindLook c m' q e why → c' ≡ c → m'' ≡ m' → reached' ≡ looked → RefusedBy (look_refusal c m q) c m reached q why reached' × (c' ≡ c) × (m'' ≡ m)
+    → IsRefusedAfterLook c m' q e why → c' ≡ c → m'' ≡ m' → reached' ≡ looked → RefusedBy (look_refusal c m q) c m reached q why reached' × (c' ≡ c) × (m'' ≡ m)
 refused_fetch c c' m m' m'' q e reached looked reached' why none looks em cause ec em' er = (
   subst (λ (o : Option ControllerRefusal). RefusedBy o c m reached q why reached') none
-      (record { entry = e; looks = subst (LooksAt c m reached q e) (sym er) looks; cause = subst (λ (n : Memory). IsRefusedBehindLook c n q e why) em cause }),
+      (record { entry = e; looks = subst (LooksAt c m reached q e) (sym er) looks; cause = subst (λ (n : Memory). IsRefusedAfterLook c n q e why) em cause }),
   ec,
   em' ∙ em,
 )
 
 -- memory is wanted for a command whose identifier is unknown
-pub memory_refused : (c : Contents) (m : Memory) (q : ℕ) (e : SubEntry) → (is_known c q e || (q == 0)) ≡ false → IsRefusedBehindLook c m q e refusal.Memory
+pub memory_refused : (c : Contents) (m : Memory) (q : ℕ) (e : SubEntry) → (is_known c q e || (q == 0)) ≡ false → IsRefusedAfterLook c m q e refusal.Memory
 memory_refused c m q e none = let parts = or_parts (is_known c q e) (q == 0) none in rw (parts.0) refl
 
 -- the same of the answer that it is

@@ -23,8 +23,8 @@ abbrev pub is_in : Lent → ℕ → ℕ → Bool
 is_in lent = is_lent lent.first lent.bytes.now
 
 -- what a fetch is refused for after its look: no room for a completion at once, or else memory for the command
-abbrev pub IsRefusedBehindLook : Contents → Memory → ℕ → SubEntry → ControllerRefusal → Type 0
-IsRefusedBehindLook c m q e why = (if is_known c q e then entry_refusal c m q e else Some refusal.Memory) ≡ Some why
+abbrev pub IsRefusedAfterLook : Contents → Memory → ℕ → SubEntry → ControllerRefusal → Type 0
+IsRefusedAfterLook c m q e why = (if is_known c q e then entry_refusal c m q e else Some refusal.Memory) ≡ Some why
 
 -- a call that wants the blocks that an entry names
 abbrev pub not_lent : SubEntry → LentRefusal

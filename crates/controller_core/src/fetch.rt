@@ -7,7 +7,7 @@ ghost use Rattle.entry_codec.specs.declared.status.TheConstants.Status.{COMMAND_
 ghost use Rattle.queue_pair.specs.Memory.{entry_at, submission_page};
 ghost use Rattle.controller_core.specs.Posting.{post_refusal_at, post_refusal, completion_by, memory_posted, page_posted, with_posted};
 ghost use Rattle.controller_core.specs.Contents.{change, is_command, FitsWork, IsController};
-ghost use Rattle.controller_core.specs.Lending.{IsRefusedBehindLook};
+ghost use Rattle.controller_core.specs.Lending.{IsRefusedAfterLook};
 ghost use Rattle.controller_core.specs.Fetching.{live_side, side_refusal, look_refusal, entry_refusal, is_known, begun, LooksAt, PostsConflict, Takes, Fetches};
 ghost use Rattle.controller_core.specs.Managing.{with_taken, command_of, managed};
 ghost use Rattle.controller_core.specs.declared.command.FetchedWork.TheVariants.{Io};
@@ -201,7 +201,7 @@ impl<A: Allocator + Copy, I: Blocks> Controller<A, I> {
         ensures room { OnOk result (entry_refusal self.old (D.memory dma.old) q entry ≡ None) }
         ensures takes { IfOk result (λ taken. taken ≡ true → Takes (is_known self.old q entry) self.old (D.page_count dma.old) q entry (D.memory dma.old) (D.reached dma.old) self.new (D.memory dma.new) (D.reached dma.new)) }
         ensures leaves { IfOk result (λ taken. taken ≡ false → (self.new ≡ self.old) × (D.memory dma.new ≡ D.memory dma.old) × (D.reached dma.new ≡ D.reached dma.old)) }
-        ensures refused { IfErr result (λ why. IsRefusedBehindLook self.old (D.memory dma.old) q entry why) }
+        ensures refused { IfErr result (λ why. IsRefusedAfterLook self.old (D.memory dma.old) q entry why) }
         ensures at_once { OnErr result ((is_known self.old q entry || (q == 0)) ≡ true) }
         ensures unchanged { OnErr result ((self.new ≡ self.old) × (D.memory dma.new ≡ D.memory dma.old) × (D.reached dma.new ≡ D.reached dma.old)) }
         ensures sound { IsController self.new }

@@ -24,7 +24,7 @@ pub const ROOMY: Config = Config {
     segment: 256,
 };
 
-/// So many Reads of one size, for each of so many submitters.
+/// How many submitters there are, and the Reads of each.
 #[derive(Clone, Copy)]
 pub struct Shape {
     /// How many submitters there are, 1 to 16.
