@@ -1,9 +1,10 @@
 //! All that the controller can do, in one call.
 
-ghost use Rattle.std.specs.Prelude.{◌≡◌};
+ghost use Rattle.std.specs.Prelude.{◌≡◌, IfNone, IsTrue};
 ghost use Rattle.nvmesgl_c.specs.MachineKept.{kept_in};
 ghost use Rattle.nvmesgl_c.specs.MachineServing as serving;
 ghost use Rattle.nvmesgl_c.specs.MachineServing.{Serves, ServesKept};
+ghost use Rattle.step_core.specs.Looks.{IsAtRest};
 
 use crate::machine::desk::Desk;
 use crate::machine::handle::Handle;
@@ -11,7 +12,7 @@ use crate::words::code::{DONE, code_of_refusal};
 use crate::words::{Answer, nothing, or_code};
 use machine_model::words::Refusal;
 use std::alloc::Global;
-use step_core::{ControllerStep, Reply, Step};
+use step_core::{ControllerStep, Reply, Step, WalkState};
 
 /// The most steps of one call.
 const MOST_STEPS: u32 = 65_536;
@@ -64,17 +65,42 @@ fn refusal_in(reply: &Reply) -> Option<Refusal>
     }
 }
 
-/// Does what the controller can do, step by step, until it is at rest, a step is refused, or as many steps were made as one call makes.
+/// The next unit of a list, after a unit that was not its last.
+fn next_unit(step: ControllerStep, reply: &Reply) -> Option<ControllerStep> {
+    match reply {
+        Reply::Walked {
+            state: WalkState::More,
+            ..
+        } => Some(step),
+        _ => None,
+    }
+}
+
+/// The step to make: the next unit of a list, where there is one, and else a step that the controller can do.
+fn next(desk: &mut Desk, unit: Option<ControllerStep>) -> Option<ControllerStep>
+    ensures rest { IfNone result (IsTrue desk.old.world.trusted → IsAtRest desk.old.world) }
+    ensures same { desk.new ≡ desk.old }
+{
+    match unit {
+        Some(step) => Some(step),
+        None => desk.next_step(),
+    }
+}
+
+/// Does what the controller can do, step by step, until it is at rest, a step is refused, or as many steps were made as one call makes. A list
+/// is walked to its end without a look in between.
 pub(crate) fn serve(desk: &mut Desk) -> Served
     ensures { Serves desk.old result desk.new }
 {
     let mut completed = 0;
+    let mut unit = None;
     for made in 0..MOST_STEPS {
-        let Some(step) = desk.next_step() else {
+        let Some(step) = next(desk, unit) else {
             let end = ServeEnd::Rest;
             return Served { completed, end };
         };
         let reply = desk.step(step_of(step));
+        unit = next_unit(step, &reply);
         if let Some(why) = refusal_in(&reply) {
             let end = ServeEnd::Refused(why);
             return Served { completed, end };

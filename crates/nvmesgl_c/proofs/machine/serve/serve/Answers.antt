@@ -11,12 +11,12 @@ loop-made-init c = none_served c.args.desk.now
 pub returns-in-Some-refusal_in : goal.returns-in-Some-refusal_in
 returns-in-Some-refusal_in c =
     refused_last c.args.desk.now c.loop-made.desk c.step-reply.new.self c.loop-made.completed c.loop-made.made c.step_of.result c.in-Some-refusal_in.why c.step-reply.result c.loop-made.invariant c.step_of.ensures
-    (subst (λ (t : Table). Does t c.step_of.result c.step-reply.result c.step-reply.new.self) c.next_step.ensures.same c.step-reply.ensures.does) (sym c.refusal_in.ensures ∙ c.in-Some-refusal_in.is)
+    (subst (λ (t : Table). Does t c.step_of.result c.step-reply.result c.step-reply.new.self) c.next.ensures.same c.step-reply.ensures.does) (sym c.refusal_in.ensures ∙ c.in-Some-refusal_in.is)
 
 pub loop-made-preserved : goal.loop-made-preserved
 loop-made-preserved c =
     let does : Does c.loop-made.desk c.step_of.result c.step-reply.result c.step-reply.new.self =
-    subst (λ (t : Table). Does t c.step_of.result c.step-reply.result c.step-reply.new.self) c.next_step.ensures.same c.step-reply.ensures.does in
+    subst (λ (t : Table). Does t c.step_of.result c.step-reply.result c.step-reply.new.self) c.next.ensures.same c.step-reply.ensures.does in
     elim c.if-is_completed.branch [
       | then-is_completed w ↦
           rw w.completed-is
